@@ -1,0 +1,4 @@
+// Numbers, words and keys as text. A text is read exactly where it is what would be written, so what is written reads back.
+pub mod laws;
+pub mod numbers;
+pub mod words;
