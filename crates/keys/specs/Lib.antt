@@ -2,4 +2,5 @@ pub mod Orders
 pub mod Pieces
 pub mod Bytes
 pub mod Names
+pub mod Shown
 pub mod Laws

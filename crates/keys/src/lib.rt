@@ -5,3 +5,4 @@ pub mod laws;
 pub mod name;
 pub mod naming;
 pub mod piece;
+pub mod shown;

@@ -1,17 +1,20 @@
 -- Words: finding the first space from left to right, and all words from the first one.
 use mathlib.Core.Path.{_≡_, refl, sym, ap, ap₂, _∙_}
 use mathlib.Core.Logic.{_⊎_, inl, inr}
-use mathlib.Core.Bool.{Bool, true, false, cond}
+use mathlib.Core.Bool.{Bool, true, false, cond, not}
 use mathlib.Core.List.{List, [], _∷_, _++_, append-nil, append-assoc}
 use Prim.Native.Nat.{ℕ, _+_, _-_, _≤_, _<_}
 use native.Mathlib.Omega.{arith}
 use lib.Dec.{eqb}
 use lib.ListN.{length, getD, take, drop}
 use Rattle.std.proofs.shelf.Lists.{take-more, take-all, take-rest, drop-more, drop-all}
-use Rattle.std.proofs.shelf.Tests.{cases-eq, eq-eqb, ne-eqb}
+use Rattle.std.proofs.shelf.Tests.{cases-eq, eq-eqb, ne-eqb, true≢false, false≢true}
 use Rattle.std.specs.declared.option.Option.{Option}
 use Rattle.std.specs.declared.option.Option.the-variants.{Some, None}
+use denote.Ref.{RefT, now}
+use Rattle.std.specs.Options.{isSome, mapped}
 use Rattle.text.specs.Words.{firstWord, afterWord, inFront, words}
+use Rattle.text.specs.Left.{wordsOf, isNone, firstOf, behindFirst}
 
 -- no space stands before the place i
 pub record Cutting (text : List ℕ) (i : ℕ) : Type 0 where
@@ -45,14 +48,23 @@ cutting-all text i h e =
     (sym (h .word ∙ ap (λ (l : List ℕ). take i text ++ firstWord l) gone ∙ append-nil (take i text) ∙ take-all i text (omega arith)),
      sym (h .rest ∙ ap afterWord gone))
 
--- the words behind the first one
-abbrev pub restWords : Option (List ℕ) → List (List ℕ)
-restWords None = []
-restWords (Some rest) = words rest
-
 -- all words are the first one and those behind it
-pub words-first : (text : List ℕ) → words text ≡ firstWord text ∷ restWords (afterWord text)
+pub words-first : (text : List ℕ) → words text ≡ firstWord text ∷ wordsOf (afterWord text)
 words-first [] = refl
 words-first (c ∷ cs) =
     elim (cases-eq c 32)
     [ inl e ↦ simp (eq-eqb c 32 e) | inr n ↦ simp (ne-eqb c 32 n) (ap (inFront c) (words-first cs)) ]
+
+-- words are left exactly where text is
+pub none-left : (o : Option (RefT (List ℕ))) (r : Bool) → isSome o ≡ not r → r ≡ isNone (wordsOf (mapped now o))
+none-left None true e = refl
+none-left None false e = absurd (false≢true e)
+none-left (Some t) true e = absurd (true≢false e)
+none-left (Some t) false e = sym (ap isNone (words-first (now t)))
+
+-- the next word, and the words behind it
+pub first-left : (o : Option (RefT (List ℕ))) (t : RefT (List ℕ)) → o ≡ Some t → firstOf (wordsOf (mapped now o)) ≡ Some (firstWord (now t))
+first-left o t e = ap (λ (p : Option (RefT (List ℕ))). firstOf (wordsOf (mapped now p))) e ∙ ap firstOf (words-first (now t))
+
+pub behind-left : (o : Option (RefT (List ℕ))) (t : RefT (List ℕ)) → o ≡ Some t → behindFirst (wordsOf (mapped now o)) ≡ wordsOf (afterWord (now t))
+behind-left o t e = ap (λ (p : Option (RefT (List ℕ))). behindFirst (wordsOf (mapped now p))) e ∙ ap behindFirst (words-first (now t))

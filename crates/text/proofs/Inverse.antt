@@ -23,10 +23,10 @@ use Rattle.text.specs.Numbers.{worth, wellBegun, numeral, numberOf, negated, u
 use Rattle.text.specs.Laws.{Numbers-read-back, Numbers-are-written, Integers-read-back, Integers-are-written}
 
 -- what is something is not nothing, and is one thing
-some-same : {A : Type 0} (a b : A) → _≡_ {A = Option A} (Some a) (Some b) → a ≡ b
+pub some-same : {A : Type 0} (a b : A) → _≡_ {A = Option A} (Some a) (Some b) → a ≡ b
 some-same a b e = cc
 
-none-some : {A : Type 0} (b : A) → _≡_ {A = Option A} None (Some b) → ⊥
+pub none-some : {A : Type 0} (b : A) → _≡_ {A = Option A} None (Some b) → ⊥
 none-some b e = let z : _≡_ {A = ℕ} 0 1 = cc in omega arith
 
 own : Numerals (λ ds. allDigits ds ≡ true) (worth 0)
@@ -35,7 +35,11 @@ own = numerals-by-fold _ tells-allDigits worth (search needs)
 below-64 : (k n : ℕ) → k ≤ 64 → n < 2 ^ k → n < 2 ^ 64
 below-64 k n h lt = omega (arith, pow-mono h)
 
--- what is written of a number below 2 ^ 64 is a numeral
+-- what is written of a number below 2 ^ 64 is digits
+pub decimal-digits : (n : ℕ) → n < 2 ^ 64 → allDigits (decimal n) ≡ true
+decimal-digits n lt = digits-decimal own n lt
+
+-- and begins as a numeral does
 decimal-begins : (n : ℕ) → n < 2 ^ 64 → wellBegun (decimal n) ≡ true
 decimal-begins n lt =
     elim (cases-lt (length (decimal n)) 2)

@@ -3,8 +3,11 @@
 --   firstWord   the text before the first space
 --   afterWord   the text behind the first space, or nothing
 --   words       all words; two spaces in a row have an empty word between them
+--   unwords     the text of some words, with single spaces between them
+--   Spaceless   a word has no space
+use mathlib.Core.Path.{_≡_}
 use mathlib.Core.Bool.{cond}
-use mathlib.Core.List.{List, [], _∷_}
+use mathlib.Core.List.{List, [], _∷_, _++_}
 use Prim.Native.Nat.{ℕ}
 use lib.Dec.{eqb}
 use Rattle.std.specs.declared.option.Option.{Option}
@@ -29,3 +32,14 @@ inFront c (w ∷ ws) = (c ∷ w) ∷ ws
 abbrev pub words : List ℕ → List (List ℕ)
 words [] = [] ∷ []
 words (c ∷ cs) = cond (eqb c 32) ([] ∷ words cs) (inFront c (words cs))
+
+-- the words with single spaces between them
+abbrev pub unwords : List (List ℕ) → List ℕ
+unwords [] = []
+unwords (w ∷ []) = w
+unwords (w ∷ v ∷ ws) = w ++ (32 ∷ unwords (v ∷ ws))
+
+-- no byte of the word is a space
+abbrev pub Spaceless : List ℕ → Type 0
+Spaceless [] = Unit {0}
+Spaceless (c ∷ cs) = (c ≡ 32 → ⊥) × Spaceless cs

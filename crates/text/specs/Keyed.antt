@@ -1,0 +1,33 @@
+-- Keys read from words.
+--
+--   pieceOf   the piece key that the first two words write, or nothing
+--   jobOf     the job key that the first two words write, or nothing
+use mathlib.Core.List.{List}
+use Prim.Native.Nat.{ℕ}
+use lib.IntN.{ℤ}
+use Rattle.std.specs.declared.option.Option.{Option}
+use Rattle.std.specs.declared.option.Option.the-variants.{Some, None}
+use Rattle.keys.specs.declared.piece.PieceKey.{PieceKey}
+use Rattle.keys.specs.declared.job.JobKey.{JobKey}
+use Rattle.text.specs.Numbers.{numberOf, integerOf}
+use Rattle.text.specs.Left.{behindFirst, readFirst}
+
+-- f of both values, where both are there
+abbrev pub both : {A B C : Type 0} → (A → B → C) → Option A → Option B → Option C
+both f None b = None
+both f (Some a) None = None
+both f (Some a) (Some b) = Some (f a b)
+
+abbrev pub pieceKey : ℕ → ℕ → PieceKey
+pieceKey file piece = record { file = file; piece = piece }
+
+abbrev pub jobKey : ℤ → ℕ → JobKey
+jobKey urgency number = record { urgency = urgency; number = number }
+
+-- a file's number and a piece's, 32 bits each
+abbrev pub pieceOf : List (List ℕ) → Option PieceKey
+pieceOf ws = both pieceKey (readFirst (numberOf 32) ws) (readFirst (numberOf 32) (behindFirst ws))
+
+-- a signed urgency and a job's number, 32 bits each
+abbrev pub jobOf : List (List ℕ) → Option JobKey
+jobOf ws = both jobKey (readFirst integerOf ws) (readFirst (numberOf 32) (behindFirst ws))
