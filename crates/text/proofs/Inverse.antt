@@ -42,15 +42,17 @@ decimal-digits n lt = digits-decimal own n lt
 -- and begins as a numeral does
 decimal-begins : (n : ℕ) → n < 2 ^ 64 → wellBegun (decimal n) ≡ true
 decimal-begins n lt =
-    elim (cases-lt (length (decimal n)) 2)
-    [ inl t ↦ simp (lt-ltb _ _ t) (eq-eqb _ _ (omega (arith, decimal-some n lt)))
-    | inr t ↦ simp (le-ltb _ _ t) (ap not (ne-eqb _ _ (leading n lt t))) ]
+    elim (cases-lt (length (decimal n)) 2) [
+      | inl t ↦ simp (lt-ltb _ _ t) (eq-eqb _ _ (omega (arith, decimal-some n lt)))
+      | inr t ↦ simp (le-ltb _ _ t) (ap not (ne-eqb _ _ (leading n lt t)))
+    ]
   where
     leading : (n : ℕ) → n < 2 ^ 64 → 2 ≤ length (decimal n) → getD (decimal n) 0 0 ≡ 48 → ⊥
     leading n lt two e =
-        elim (cases-eq n 0)
-        [ inl z ↦ let one : length (decimal n) ≤ 1 = length-decimal-le 1 n (omega arith) (omega arith) lt in omega arith
-        | inr z ↦ omega (arith, first-decimal n (omega arith) lt) ]
+        elim (cases-eq n 0) [
+          | inl z ↦ let one : length (decimal n) ≤ 1 = length-decimal-le 1 n (omega arith) (omega arith) lt in omega arith
+          | inr z ↦ omega (arith, first-decimal n (omega arith) lt)
+        ]
 
 pub numbers-read-back : Numbers-read-back
 numbers-read-back k n h lt =
@@ -62,23 +64,25 @@ numbers-read-back k n h lt =
 
 pub numbers-are-written : Numbers-are-written
 numbers-are-written k n text h e =
-    elim (cases-bool (numeral text && ltb (worth 0 text) (2 ^ k)))
-    [ inl t ↦
-        let parts = and-parts (numeral text) _ t in
-        let shape = and-parts (wellBegun text) _ (parts .0) in
-        let same : worth 0 text ≡ n = some-same (worth 0 text) n (sym (ap (λ (b : Bool). cond b (Some (worth 0 text)) None) t) ∙ e) in
-        let lt : worth 0 text < 2 ^ k = ltb-true _ _ (parts .1) in
-        let begun = well-begun text (shape .0) in
-        (sym (decimal-value own text (shape .1) (begun .0) (begun .1) (below-64 k (worth 0 text) h lt)) ∙ ap decimal same, omega arith)
-    | inr f ↦ absurd (none-some n (sym (ap (λ (b : Bool). cond b (Some (worth 0 text)) None) f) ∙ e)) ]
+    elim (cases-bool (numeral text && ltb (worth 0 text) (2 ^ k))) [
+      | inl t ↦
+          let parts = and-parts (numeral text) _ t in
+          let shape = and-parts (wellBegun text) _ (parts .0) in
+          let same : worth 0 text ≡ n = some-same (worth 0 text) n (sym (ap (λ (b : Bool). cond b (Some (worth 0 text)) None) t) ∙ e) in
+          let lt : worth 0 text < 2 ^ k = ltb-true _ _ (parts .1) in
+          let begun = well-begun text (shape .0) in
+          (sym (decimal-value own text (shape .1) (begun .0) (begun .1) (below-64 k (worth 0 text) h lt)) ∙ ap decimal same, omega arith)
+      | inr f ↦ absurd (none-some n (sym (ap (λ (b : Bool). cond b (Some (worth 0 text)) None) f) ∙ e))
+    ]
   where
     well-begun : (bs : List ℕ) → wellBegun bs ≡ true → (0 < length bs) × (getD bs 0 0 ≡ 48 → length bs ≡ 1)
     well-begun bs h =
-        elim (cases-lt (length bs) 2)
-        [ inl t ↦ let one = eqb-true (length bs) 1 (simp (lt-ltb _ _ t) at h) in (omega arith, λ _. one)
-        | inr t ↦
-            let apart : not (eqb (getD bs 0 0) 48) ≡ true = simp (le-ltb _ _ t) at h in
-            (omega arith, λ e. absurd (eqb-false _ _ (not-true _ apart) e)) ]
+        elim (cases-lt (length bs) 2) [
+          | inl t ↦ let one = eqb-true (length bs) 1 (simp (lt-ltb _ _ t) at h) in (omega arith, λ _. one)
+          | inr t ↦
+              let apart : not (eqb (getD bs 0 0) 48) ≡ true = simp (le-ltb _ _ t) at h in
+              (omega arith, λ e. absurd (eqb-false _ _ (not-true _ apart) e))
+        ]
 
 -- no digit is a minus
 no-minus : (n : ℕ) → n < 2 ^ 64 → getD (decimal n) 0 0 ≡ 45 → ⊥
@@ -107,31 +111,35 @@ begins (x ∷ xs) c e ne = ap (λ (y : ℕ). y ∷ xs) e
 read-negative : (z : ℤ) (rest : List ℕ) (o : Option ℕ) → numberOf 64 rest ≡ o → negated o ≡ Some z → ((45 ∷ rest) ≡ signed z) × SFits w32 z
 read-negative z rest None r e = absurd (none-some z e)
 read-negative z rest (Some n) r e =
-    elim (cases-bool (leb 1 n && leb n (2 ^ 31)))
-    [ inl t ↦
-        let parts = and-parts (leb 1 n) (leb n (2 ^ 31)) t in
-        let low = leb-true 1 n (parts .0) in
-        let high = leb-true n (2 ^ 31) (parts .1) in
-        let is : negsuc (n - 1) ≡ z = some-same (negsuc (n - 1)) z (sym (ap (λ (b : Bool). cond b (Some (negsuc (n - 1))) None) t) ∙ e) in
-        let up : suc (n - 1) ≡ n = omega arith in
-        (ap (λ (l : List ℕ). 45 ∷ l) (numbers-are-written 64 n rest (omega arith) r .0 ∙ ap decimal (sym up)) ∙ ap signed is,
-         subst (SFits w32) is (record { sfits = omega arith }))
-    | inr f ↦ absurd (none-some z (sym (ap (λ (b : Bool). cond b (Some (negsuc (n - 1))) None) f) ∙ e)) ]
+    elim (cases-bool (leb 1 n && leb n (2 ^ 31))) [
+      | inl t ↦
+          let parts = and-parts (leb 1 n) (leb n (2 ^ 31)) t in
+          let low = leb-true 1 n (parts .0) in
+          let high = leb-true n (2 ^ 31) (parts .1) in
+          let is : negsuc (n - 1) ≡ z = some-same (negsuc (n - 1)) z (sym (ap (λ (b : Bool). cond b (Some (negsuc (n - 1))) None) t) ∙ e) in
+          let up : suc (n - 1) ≡ n = omega arith in (
+            ap (λ (l : List ℕ). 45 ∷ l) (numbers-are-written 64 n rest (omega arith) r .0 ∙ ap decimal (sym up)) ∙ ap signed is,
+            subst (SFits w32) is (record { sfits = omega arith }),
+          )
+      | inr f ↦ absurd (none-some z (sym (ap (λ (b : Bool). cond b (Some (negsuc (n - 1))) None) f) ∙ e))
+    ]
 
 read-unsigned : (z : ℤ) (text : List ℕ) (o : Option ℕ) → numberOf 64 text ≡ o → unsigned o ≡ Some z → (text ≡ signed z) × SFits w32 z
 read-unsigned z text None r e = absurd (none-some z e)
 read-unsigned z text (Some n) r e =
-    elim (cases-lt n (2 ^ 31))
-    [ inl t ↦
-        let is : pos n ≡ z = some-same (pos n) z (sym (ap (λ (b : Bool). cond b (Some (pos n)) None) (lt-ltb n (2 ^ 31) t)) ∙ e) in
-        (numbers-are-written 64 n text (omega arith) r .0 ∙ ap signed is, subst (SFits w32) is (record { sfits = t }))
-    | inr f ↦ absurd (none-some z (sym (ap (λ (b : Bool). cond b (Some (pos n)) None) (le-ltb n (2 ^ 31) f)) ∙ e)) ]
+    elim (cases-lt n (2 ^ 31)) [
+      | inl t ↦
+          let is : pos n ≡ z = some-same (pos n) z (sym (ap (λ (b : Bool). cond b (Some (pos n)) None) (lt-ltb n (2 ^ 31) t)) ∙ e) in
+          (numbers-are-written 64 n text (omega arith) r .0 ∙ ap signed is, subst (SFits w32) is (record { sfits = t }))
+      | inr f ↦ absurd (none-some z (sym (ap (λ (b : Bool). cond b (Some (pos n)) None) (le-ltb n (2 ^ 31) f)) ∙ e))
+    ]
 
 pub integers-are-written : Integers-are-written
 integers-are-written z text e =
-    elim (cases-eq (getD text 0 0) 45)
-    [ inl m ↦
-        let told : negated (numberOf 64 (drop 1 text)) ≡ Some z = simp (eq-eqb (getD text 0 0) 45 m) at e in
-        let r = read-negative z (drop 1 text) (numberOf 64 (drop 1 text)) refl told in
-        (begins text 45 m (λ h. omega arith) ∙ r .0, r .1)
-    | inr m ↦ read-unsigned z text (numberOf 64 text) refl (simp (ne-eqb (getD text 0 0) 45 m) at e) ]
+    elim (cases-eq (getD text 0 0) 45) [
+      | inl m ↦
+          let told : negated (numberOf 64 (drop 1 text)) ≡ Some z = simp (eq-eqb (getD text 0 0) 45 m) at e in
+          let r = read-negative z (drop 1 text) (numberOf 64 (drop 1 text)) refl told in
+          (begins text 45 m (λ h. omega arith) ∙ r .0, r .1)
+      | inr m ↦ read-unsigned z text (numberOf 64 text) refl (simp (ne-eqb (getD text 0 0) 45 m) at e)
+    ]

@@ -1,4 +1,4 @@
--- Words joined by single spaces, and keys as two words.
+-- Parts joined again, and keys as two words.
 use mathlib.Core.Path.{_≡_, refl, sym, ap, ap₂, subst, _∙_}
 use mathlib.Core.Logic.{_⊎_, inl, inr}
 use mathlib.Core.Bool.{Bool, true, false, cond, _&&_}
@@ -20,62 +20,56 @@ use Rattle.keys.specs.declared.piece.PieceKey.{PieceKey}
 use Rattle.keys.specs.declared.job.JobKey.{JobKey}
 use Rattle.keys.specs.Shown.{pieceText, jobText}
 use Rattle.text.specs.Numbers.{numberOf, integerOf}
-use Rattle.text.specs.Words.{inFront, words, unwords, Spaceless}
+use Rattle.text.specs.Parts.{inFront, parts, joined, Without, words}
 use Rattle.text.specs.Left.{behindFirst, readFirst}
 use Rattle.text.specs.Keyed.{both, pieceKey, jobKey, pieceOf, jobOf}
-use Rattle.text.specs.Laws.{Words-join, Words-split, Pieces-read-back, Pieces-are-written, Jobs-read-back, Jobs-are-written}
-use Rattle.text.proofs.Cutting.{words-first}
+use Rattle.text.specs.Laws.{Parts-join, Parts-split, Pieces-read-back, Pieces-are-written, Jobs-read-back, Jobs-are-written}
+use Rattle.text.proofs.Cuts.{parts-first}
 use Rattle.text.proofs.Inverse.{some-same, none-some, decimal-digits, numbers-read-back, numbers-are-written, integers-read-back, integers-are-written}
 
--- a byte in front of the first word is a byte in front of the text
-front-joined : (c : ℕ) (ws : List (List ℕ)) → unwords (inFront c ws) ≡ c ∷ unwords ws
-front-joined c [] = refl
-front-joined c (w ∷ []) = refl
-front-joined c (w ∷ v ∷ ws) = refl
+-- a byte in front of the first part is a byte in front of the text
+front-joined : (s c : ℕ) (ws : List (List ℕ)) → joined s (inFront c ws) ≡ c ∷ joined s ws
+front-joined s c [] = refl
+front-joined s c (w ∷ []) = refl
+front-joined s c (w ∷ v ∷ ws) = refl
 
-pub words-join : Words-join
-words-join [] = refl
-words-join (c ∷ cs) =
-    elim (cases-eq c 32)
-    [ inl e ↦ simp (eq-eqb c 32 e) (rest (words cs) (words-first cs) ∙ ap₂ (λ (x : ℕ) (l : List ℕ). x ∷ l) (sym e) (words-join cs))
-    | inr n ↦ simp (ne-eqb c 32 n) (front-joined c (words cs) ∙ ap (λ (l : List ℕ). c ∷ l) (words-join cs)) ]
-  where
-    rest : (ws : List (List ℕ)) {w : List ℕ} {vs : List (List ℕ)} → ws ≡ w ∷ vs → unwords ([] ∷ ws) ≡ 32 ∷ unwords ws
-    rest [] e = absurd (empty e)
-      where
-        empty : {w : List ℕ} {vs : List (List ℕ)} → _≡_ {A = List (List ℕ)} [] (w ∷ vs) → ⊥
-        empty e = let z : _≡_ {A = ℕ} 0 1 = cc in omega arith
-    rest (v ∷ vs) e = refl
+pub parts-join : Parts-join
+parts-join s [] = refl
+parts-join s (c ∷ cs) =
+    elim (cases-eq c s) [
+      | inl e ↦ simp (eq-eqb c s e) (ap (λ (l : List (List ℕ)). joined s ([] ∷ l)) (parts-first s cs) ∙ ap (λ (l : List (List ℕ)). s ∷ joined s l) (sym (parts-first s cs)) ∙ ap₂ (λ (x : ℕ) (l : List ℕ). x ∷ l) (sym e) (parts-join s cs))
+      | inr n ↦ simp (ne-eqb c s n) (front-joined s c (parts s cs) ∙ ap (λ (l : List ℕ). c ∷ l) (parts-join s cs))
+    ]
 
-pub words-split : Words-split
-words-split w text h = (single w h, first w text h)
+pub parts-split : Parts-split
+parts-split s w text h = (single w h, first w text h)
   where
-    single : (w : List ℕ) → Spaceless w → words w ≡ w ∷ []
+    single : (w : List ℕ) → Without s w → parts s w ≡ w ∷ []
     single [] h = refl
-    single (c ∷ cs) h = simp (ne-eqb c 32 (h .0)) (ap (inFront c) (single cs (h .1)))
+    single (c ∷ cs) h = simp (ne-eqb c s (h .0)) (ap (inFront c) (single cs (h .1)))
 
-    first : (w text : List ℕ) → Spaceless w → words (w ++ (32 ∷ text)) ≡ w ∷ words text
-    first [] text h = refl
-    first (c ∷ cs) text h = simp (ne-eqb c 32 (h .0)) (ap (inFront c) (first cs text (h .1)))
+    first : (w text : List ℕ) → Without s w → parts s (w ++ (s ∷ text)) ≡ w ∷ parts s text
+    first [] text h = simp (eq-eqb s s refl)
+    first (c ∷ cs) text h = simp (ne-eqb c s (h .0)) (ap (inFront c) (first cs text (h .1)))
 
 -- digits are no spaces
-digits-spaceless : (ds : List ℕ) → allDigits ds ≡ true → Spaceless ds
+digits-spaceless : (ds : List ℕ) → allDigits ds ≡ true → Without 32 ds
 digits-spaceless [] h = tt
 digits-spaceless (c ∷ cs) h =
     let parts = and-parts (asciiDigit c) (allDigits cs) h in
     let low = and-parts (leb 48 c) (leb c 57) (parts .0) in
     (λ e. omega (arith, leb-true 48 c (low .0)), digits-spaceless cs (parts .1))
 
-number-spaceless : (n : ℕ) → n < 2 ^ 64 → Spaceless (decimal n)
+number-spaceless : (n : ℕ) → n < 2 ^ 64 → Without 32 (decimal n)
 number-spaceless n lt = digits-spaceless (decimal n) (decimal-digits n lt)
 
-signed-spaceless : (z : ℤ) → SFits w32 z → Spaceless (signed z)
+signed-spaceless : (z : ℤ) → SFits w32 z → Without 32 (signed z)
 signed-spaceless (pos n) h = let lt : n < 2 ^ 31 = h .sfits in number-spaceless n (omega arith)
 signed-spaceless (negsuc n) h = let lt : n < 2 ^ 31 = h .sfits in ((λ e. omega arith), number-spaceless (suc n) (omega arith))
 
 -- two words
-two : (a b : List ℕ) → Spaceless a → Spaceless b → words (a ++ (32 ∷ b)) ≡ a ∷ (b ∷ [])
-two a b ha hb = words-split a b ha .1 ∙ ap (λ (l : List (List ℕ)). a ∷ l) (words-split b [] hb .0)
+two : (a b : List ℕ) → Without 32 a → Without 32 b → words (a ++ (32 ∷ b)) ≡ a ∷ (b ∷ [])
+two a b ha hb = parts-split 32 a b ha .1 ∙ ap (λ (l : List (List ℕ)). a ∷ l) (parts-split 32 b [] hb .0)
 
 pub pieces-read-back : Pieces-read-back
 pieces-read-back k lf lp =
@@ -110,7 +104,7 @@ pub record Two (text : List ℕ) : Type 0 where
 pair : (text : List ℕ) (ws : List (List ℕ)) → words text ≡ ws → length ws ≡ 2 → Two text
 pair text [] e n = absurd (omega arith)
 pair text (a ∷ []) e n = absurd (omega arith)
-pair text (a ∷ b ∷ []) e n = record { a = a; b = b; words-are = e; text-is = sym (words-join text) ∙ ap unwords e }
+pair text (a ∷ b ∷ []) e n = record { a = a; b = b; words-are = e; text-is = sym (parts-join 32 text) ∙ ap (joined 32) e }
 pair text (a ∷ b ∷ c ∷ ws) e n = absurd (omega arith)
 
 pub pieces-are-written : Pieces-are-written

@@ -1,4 +1,4 @@
 pub mod Reading
-pub mod Cutting
+pub mod Cuts
 pub mod Inverse
 pub mod Joining

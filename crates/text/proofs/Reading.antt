@@ -31,7 +31,8 @@ reading-start bs = record { number = refl; digits = refl }
 pub reading-more : (bs : List ℕ) (i n : ℕ) → Reading bs i n → i < length bs → asciiDigit (getD bs i 0) ≡ true → Reading bs (i + 1) (n * 10 + (getD bs i 0 - 48))
 reading-more bs i n h lt d = record {
   number = sym (ap (worth n) (drop-more bs i 0 lt)) ∙ h .number;
-  digits = sym (ap allDigits (drop-more bs i 0 lt) ∙ ap (λ (b : Bool). b && allDigits (drop (i + 1) bs)) d) ∙ h .digits }
+  digits = sym (ap allDigits (drop-more bs i 0 lt) ∙ ap (λ (b : Bool). b && allDigits (drop (i + 1) bs)) d) ∙ h .digits;
+}
 
 -- what is no number is read as nothing
 no-number : (k : ℕ) (bs : List ℕ) → (numeral bs && ltb (worth 0 bs) (2 ^ k)) ≡ false → None ≡ numberOf k bs

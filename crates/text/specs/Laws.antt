@@ -2,7 +2,7 @@
 --
 --   Numbers-read-back, Numbers-are-written     for unsigned numbers of up to 64 bits
 --   Integers-read-back, Integers-are-written   for signed 32-bit numbers
---   Words-join, Words-split                    for words with single spaces between them
+--   Parts-join, Parts-split                    for parts with a byte between them, as words
 --   Pieces-read-back, Pieces-are-written       for piece keys
 --   Jobs-read-back, Jobs-are-written           for job keys
 --
@@ -21,7 +21,7 @@ use Rattle.keys.specs.declared.piece.PieceKey.{PieceKey}
 use Rattle.keys.specs.declared.job.JobKey.{JobKey}
 use Rattle.keys.specs.Shown.{pieceText, jobText}
 use Rattle.text.specs.Numbers.{numberOf, integerOf}
-use Rattle.text.specs.Words.{words, unwords, Spaceless}
+use Rattle.text.specs.Parts.{parts, joined, Without, words}
 use Rattle.text.specs.Keyed.{pieceOf, jobOf}
 
 -- what is written of a number of k bits is read as that number
@@ -38,13 +38,13 @@ Integers-read-back = (z : ℤ) → SFits w32 z → integerOf (signed z) ≡ Some
 abbrev pub Integers-are-written : Type 0
 Integers-are-written = (z : ℤ) (text : List ℕ) → integerOf text ≡ Some z → (text ≡ signed z) × SFits w32 z
 
--- a text is its words with single spaces between them
-abbrev pub Words-join : Type 0
-Words-join = (text : List ℕ) → unwords (words text) ≡ text
+-- a text is its parts with s between them
+abbrev pub Parts-join : Type 0
+Parts-join = (s : ℕ) (text : List ℕ) → joined s (parts s text) ≡ text
 
--- a word without a space, a space and a text are read as the word and the text's words
-abbrev pub Words-split : Type 0
-Words-split = (w text : List ℕ) → Spaceless w → (words w ≡ w ∷ []) × (words (w ++ (32 ∷ text)) ≡ w ∷ words text)
+-- a part without s, an s and a text are cut into the part and the text's parts
+abbrev pub Parts-split : Type 0
+Parts-split = (s : ℕ) (w text : List ℕ) → Without s w → (parts s w ≡ w ∷ []) × (parts s (w ++ (s ∷ text)) ≡ w ∷ parts s text)
 
 -- what is written of a piece key is read as that key
 abbrev pub Pieces-read-back : Type 0

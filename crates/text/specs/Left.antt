@@ -1,10 +1,10 @@
--- A line read word by word.
+-- A text read part by part.
 --
---   left          the words that are not read yet
---   firstOf       the first of some words, or nothing
---   behindFirst   the words behind the first one
---   readFirst     what is read from the first word, or nothing
---   isNone        there are no words
+--   left          the parts that are not read yet
+--   firstOf       the first of some parts, or nothing
+--   behindFirst   the parts behind the first one
+--   readFirst     what is read from the first part, or nothing
+--   isNone        there are no parts
 use mathlib.Core.Bool.{Bool, true, false}
 use mathlib.Core.List.{List, [], _∷_}
 use Prim.Native.Nat.{ℕ}
@@ -12,17 +12,17 @@ use denote.Ref.{now}
 use Rattle.std.specs.Options.{mapped}
 use Rattle.std.specs.declared.option.Option.{Option}
 use Rattle.std.specs.declared.option.Option.the-variants.{Some, None}
-use Rattle.text.specs.declared.line.Words.{Words}
-use Rattle.text.specs.Words.{words}
+use Rattle.text.specs.declared.split.Parts.{Parts}
+use Rattle.text.specs.Parts.{parts}
 
--- the words of what is left of a text, or none
-abbrev pub wordsOf : Option (List ℕ) → List (List ℕ)
-wordsOf None = []
-wordsOf (Some text) = words text
+-- the parts of what is left of a text, or none
+abbrev pub partsOf : ℕ → Option (List ℕ) → List (List ℕ)
+partsOf s None = []
+partsOf s (Some text) = parts s text
 
--- the words that are not read yet
-abbrev pub left : Words → List (List ℕ)
-left w = wordsOf (mapped now (w .rest))
+-- the parts that are not read yet
+abbrev pub left : Parts → List (List ℕ)
+left p = partsOf (p .separator) (mapped now (p .rest))
 
 abbrev pub isNone : List (List ℕ) → Bool
 isNone [] = true
@@ -36,7 +36,7 @@ abbrev pub behindFirst : List (List ℕ) → List (List ℕ)
 behindFirst [] = []
 behindFirst (w ∷ ws) = ws
 
--- what f reads from the first word
+-- what f reads from the first part
 abbrev pub readFirst : {A : Type 0} → (List ℕ → Option A) → List (List ℕ) → Option A
 readFirst f [] = None
 readFirst f (w ∷ ws) = f w

@@ -1,5 +1,5 @@
 pub mod Numbers
-pub mod Words
+pub mod Parts
 pub mod Left
 pub mod Keyed
 pub mod Laws

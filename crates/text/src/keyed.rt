@@ -2,11 +2,11 @@
 ghost use mathlib.Core.Path.{_≡_};
 ghost use Rattle.text.specs.Left.{left, behindFirst};
 ghost use Rattle.text.specs.Keyed.{pieceOf, jobOf};
-use crate::line::Words;
+use crate::split::Parts;
 use keys::job::JobKey;
 use keys::piece::PieceKey;
 
-impl<'a> Words<'a> {
+impl<'a> Parts<'a> {
     // The next two words, as a piece key.
     pub fn piece(&mut self) -> Option<PieceKey>
         ensures key { λ r. ⌜ r ≡ pieceOf (left (now (self .entry))) ⌝ }
@@ -14,7 +14,10 @@ impl<'a> Words<'a> {
     {
         let file = self.u32();
         let piece = self.u32();
-        Some(PieceKey { file: file?, piece: piece? })
+        Some(PieceKey {
+            file: file?,
+            piece: piece?,
+        })
     }
 
     // The next two words, as a job key.
@@ -24,6 +27,9 @@ impl<'a> Words<'a> {
     {
         let urgency = self.i32();
         let number = self.u32();
-        Some(JobKey { urgency: urgency?, number: number? })
+        Some(JobKey {
+            urgency: urgency?,
+            number: number?,
+        })
     }
 }

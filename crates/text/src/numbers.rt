@@ -31,7 +31,11 @@ pub fn read_u32(text: &[u8]) -> Option<u32>
     ensures { λ r. ⌜ r ≡ numberOf 32 (now (text .entry)) ⌝ }
 {
     let n = read_u64(text)?;
-    if n <= 0xffff_ffff { Some(n as u32) } else { None }
+    if n <= 0xffff_ffff {
+        Some(n as u32)
+    } else {
+        None
+    }
 }
 
 // The signed 32-bit number that the text writes, or nothing.
@@ -40,8 +44,16 @@ pub fn read_i32(text: &[u8]) -> Option<i32>
 {
     if text.len() > 0 && text[0] == b'-' {
         let n = read_u64(&text[1..])?;
-        return if n >= 1 && n <= 0x8000_0000 { Some((-(n as i64)) as i32) } else { None };
+        return if n >= 1 && n <= 0x8000_0000 {
+            Some((-(n as i64)) as i32)
+        } else {
+            None
+        };
     }
     let n = read_u64(text)?;
-    if n < 0x8000_0000 { Some(n as i32) } else { None }
+    if n < 0x8000_0000 {
+        Some(n as i32)
+    } else {
+        None
+    }
 }
