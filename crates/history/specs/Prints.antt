@@ -1,0 +1,20 @@
+-- Looking up the fingerprint of a piece among recorded pairs.
+--
+--   isPiece   a key is the one of that piece of that file
+--   printAt   the fingerprint first recorded for a piece of a file, or nothing
+use mathlib.Core.Bool.{Bool, false, cond}
+use mathlib.Core.List.{List, [], _∷_}
+use Prim.Native.Nat.{ℕ}
+use lib.Dec.{eqb}
+use Rattle.std.specs.declared.option.Option.{Option}
+use Rattle.std.specs.declared.option.Option.the-variants.{Some, None}
+use Rattle.keys.specs.declared.piece.PieceKey.{PieceKey}
+
+-- the key has this file's number, and this piece's
+abbrev pub isPiece : PieceKey → ℕ → ℕ → Bool
+isPiece key file piece = cond (eqb (key .file) file) (eqb (key .piece) piece) false
+
+-- of the pairs (key, fingerprint), in the order of their arrival, the first one with this file and piece decides
+abbrev pub printAt : List (PieceKey × ℕ) → ℕ → ℕ → Option ℕ
+printAt [] file piece = None
+printAt (pair ∷ rest) file piece = cond (isPiece (pair .0) file piece) (Some (pair .1)) (printAt rest file piece)
