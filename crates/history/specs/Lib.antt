@@ -1,0 +1,4 @@
+pub mod Prints
+pub mod Records
+pub mod Same
+pub mod Verdicts
