@@ -1,6 +1,7 @@
 // The calls of a book.
 ghost use mathlib.Core.Path.{_≡_};
 ghost use mathlib.Core.List.{[]};
+ghost use Prim.Native.Nat.{_≤_};
 ghost use lib.ListN.{length};
 ghost use denote.Ref.{name};
 ghost use Rattle.std.specs.Results.{Cases};
@@ -23,6 +24,14 @@ impl<'a, K: Copy> Book<'a, K> {
         ensures { λ r. ⌜ r ≡ length (bookKeys (now (self .entry))) ⌝ }
     {
         self.len
+    }
+
+    // How many keys the book can hold.
+    pub fn room(&self) -> usize
+        ensures places { λ r. ⌜ r ≡ bookRoom (now (self .entry)) ⌝ }
+        ensures enough { λ r. ⌜ length (bookKeys (now (self .entry))) ≤ r ⌝ }
+    {
+        self.slots.len()
     }
 
     // Writes the key at the next place and answers that place; refused, nothing is written.

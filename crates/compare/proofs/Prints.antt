@@ -29,11 +29,13 @@ sofar-start ws prints e = record { same = ap (λ (l : List ℕ). mapped (λ (ns 
 pub sofar-more : (all now : List (List ℕ)) (prints next : List ℕ) (n : ℕ) → Sofar all now prints → isNone now ≡ false → readFirst (numberOf 64) now ≡ Some n → next ≡ prints ++ (n ∷ []) →
     Sofar all (behindFirst now) next
 sofar-more all [] prints next n h some e new = absurd (true≢false some)
-sofar-more all (w ∷ ws) prints next n h some e new = record { same =
-    ap (λ (l : List ℕ). mapped (λ (ns : List ℕ). l ++ ns) (numbersOf ws)) new
-    ∙ moved (numbersOf ws)
-    ∙ ap (λ (o : Option ℕ). mapped (λ (ns : List ℕ). prints ++ ns) (both (λ (n : ℕ) (ns : List ℕ). n ∷ ns) o (numbersOf ws))) (sym e)
-    ∙ h .same }
+sofar-more all (w ∷ ws) prints next n h some e new = record {
+  same =
+      ap (λ (l : List ℕ). mapped (λ (ns : List ℕ). l ++ ns) (numbersOf ws)) new
+      ∙ moved (numbersOf ws)
+      ∙ ap (λ (o : Option ℕ). mapped (λ (ns : List ℕ). prints ++ ns) (both (λ (n : ℕ) (ns : List ℕ). n ∷ ns) o (numbersOf ws))) (sym e)
+      ∙ h .same;
+}
   where
     moved : (o : Option (List ℕ)) → mapped (λ (ns : List ℕ). (prints ++ (n ∷ [])) ++ ns) o ≡ mapped (λ (ns : List ℕ). prints ++ ns) (both (λ (n : ℕ) (ns : List ℕ). n ∷ ns) (Some n) o)
     moved None = refl

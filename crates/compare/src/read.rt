@@ -56,7 +56,12 @@ pub fn read_line(heap: Global, line: &[u8]) -> Result<Option<FileLine>, AllocErr
         return Ok(None);
     };
     match numbers(heap, words)? {
-        Some(prints) => Ok(Some(FileLine { build, file, length, prints })),
+        Some(prints) => Ok(Some(FileLine {
+            build,
+            file,
+            length,
+            prints,
+        })),
         None => Ok(None),
     }
 }

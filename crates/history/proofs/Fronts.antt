@@ -6,10 +6,8 @@ use native.Mathlib.Numerals.{add-one}
 use native.Mathlib.Omega.{arith}
 use lib.ListN.{length, take}
 use lib.Seq.{take-all}
-use Rattle.std.specs.Finite.{zipped}
 use Rattle.std.specs.shelf.Maps.{nth}
 use Rattle.std.specs.declared.option.Option.the-variants.{Some, None}
-use Rattle.history.proofs.Pairs.{length-fronts}
 
 take-next : {Y : Type 0} (xs : List Y) (i : ℕ) (y : Y) → Some y ≡ nth xs i → take i xs ++ y ∷ [] ≡ take (suc i) xs
 take-next [] i y e = let z : _≡_ {A = ℕ} 0 1 = cc in absurd (omega arith)
@@ -30,9 +28,6 @@ front-next P xs i y e h = rw add-one (subst P (take-next xs i y e) h)
 pub front-end : {Y : Type 0} (P : List Y → Type 0) (xs : List Y) (i : ℕ) → None ≡ nth xs i → P (take i xs) → P (take (i + 1) xs)
 front-end P xs i e h = rw add-one (subst P (take-end xs i e) h)
 
--- the front as long as the list is the list, here for the pairs of two written fronts
-pub front-all : {K X : Type 0} (P : List (K × X) → Type 0) (ks : List K) (xs : List X) (n i : ℕ) → n ≤ length ks → n ≤ length xs → n ≤ i →
-    P (take i (zipped (take n ks) (take n xs))) → P (zipped (take n ks) (take n xs))
-front-all P ks xs n i a b l h =
-    let is = length-fronts ks xs n a b in
-    subst P (take-all i (zipped (take n ks) (take n xs)) (omega arith)) h
+-- the front as long as the list is the list
+pub front-all : {Y : Type 0} (P : List Y → Type 0) (xs : List Y) (i : ℕ) → length xs ≤ i → P (take i xs) → P xs
+front-all P xs i h p = subst P (take-all i xs h) p

@@ -12,6 +12,7 @@ use Rattle.std.specs.shelf.Maps.{nth}
 use Rattle.std.specs.declared.option.Option.{Option}
 use Rattle.std.specs.declared.option.Option.the-variants.{Some, None}
 use Rattle.keys.specs.declared.piece.PieceKey.{PieceKey}
+use Rattle.history.specs.declared.record.NotedPiece.{NotedPiece}
 use Rattle.history.specs.Prints.{isPiece, printAt}
 use Rattle.history.specs.Same.{Present}
 
@@ -28,48 +29,48 @@ pub other-piece : (key : PieceKey) (f p : ℕ) → (key .piece ≡ p → ⊥) �
 other-piece key f p ne = elim (cases-bool (eqb (key .file) f)) [ inl t ↦ rw t (ne-eqb (key .piece) p ne) | inr t ↦ rw t ]
 
 -- what is found stays found with more pairs behind it
-pub found-stays : (xs ys : List (PieceKey × ℕ)) (f p x : ℕ) → printAt xs f p ≡ Some x → printAt (xs ++ ys) f p ≡ Some x
+pub found-stays : (xs ys : List NotedPiece) (f p x : ℕ) → printAt xs f p ≡ Some x → printAt (xs ++ ys) f p ≡ Some x
 found-stays [] ys f p x e = let z : _≡_ {A = ℕ} 0 1 = cc in absurd (omega arith)
 found-stays (a ∷ xs) ys f p x e =
-    elim (cases-bool (isPiece (a .0) f p)) [
-      | inl t ↦ cond-true (isPiece (a .0) f p) _ _ t ∙ sym (cond-true (isPiece (a .0) f p) _ _ t) ∙ e
-      | inr t ↦ cond-false (isPiece (a .0) f p) _ _ t ∙ found-stays xs ys f p x (sym (cond-false (isPiece (a .0) f p) _ _ t) ∙ e)
+    elim (cases-bool (isPiece (a .key) f p)) [
+      | inl t ↦ cond-true (isPiece (a .key) f p) _ _ t ∙ sym (cond-true (isPiece (a .key) f p) _ _ t) ∙ e
+      | inr t ↦ cond-false (isPiece (a .key) f p) _ _ t ∙ found-stays xs ys f p x (sym (cond-false (isPiece (a .key) f p) _ _ t) ∙ e)
     ]
 
 -- where nothing is found, the pairs behind decide
-pub found-behind : (xs ys : List (PieceKey × ℕ)) (f p : ℕ) → printAt xs f p ≡ None → printAt (xs ++ ys) f p ≡ printAt ys f p
+pub found-behind : (xs ys : List NotedPiece) (f p : ℕ) → printAt xs f p ≡ None → printAt (xs ++ ys) f p ≡ printAt ys f p
 found-behind [] ys f p e = refl
 found-behind (a ∷ xs) ys f p e =
-    elim (cases-bool (isPiece (a .0) f p)) [
-      | inl t ↦ let same = cond-true (isPiece (a .0) f p) (Some (a .1)) (printAt xs f p) t in let z : _≡_ {A = ℕ} 0 1 = cc in absurd (omega arith)
-      | inr t ↦ cond-false (isPiece (a .0) f p) _ _ t ∙ found-behind xs ys f p (sym (cond-false (isPiece (a .0) f p) _ _ t) ∙ e)
+    elim (cases-bool (isPiece (a .key) f p)) [
+      | inl t ↦ let same = cond-true (isPiece (a .key) f p) (Some (a .print)) (printAt xs f p) t in let z : _≡_ {A = ℕ} 0 1 = cc in absurd (omega arith)
+      | inr t ↦ cond-false (isPiece (a .key) f p) _ _ t ∙ found-behind xs ys f p (sym (cond-false (isPiece (a .key) f p) _ _ t) ∙ e)
     ]
 
 -- one pair more, of another piece
-pub none-more : (xs : List (PieceKey × ℕ)) (y : PieceKey × ℕ) (f p : ℕ) → printAt xs f p ≡ None → isPiece (y .0) f p ≡ false → printAt (xs ++ y ∷ []) f p ≡ None
-none-more xs y f p e o = found-behind xs (y ∷ []) f p e ∙ cond-false (isPiece (y .0) f p) _ _ o
+pub none-more : (xs : List NotedPiece) (y : NotedPiece) (f p : ℕ) → printAt xs f p ≡ None → isPiece (y .key) f p ≡ false → printAt (xs ++ y ∷ []) f p ≡ None
+none-more xs y f p e o = found-behind xs (y ∷ []) f p e ∙ cond-false (isPiece (y .key) f p) _ _ o
 
 -- one pair more, of this piece, which was not recorded before
-pub found-new : (xs : List (PieceKey × ℕ)) (y : PieceKey × ℕ) (f p : ℕ) → printAt xs f p ≡ None → isPiece (y .0) f p ≡ true → printAt (xs ++ y ∷ []) f p ≡ Some (y .1)
-found-new xs y f p e o = found-behind xs (y ∷ []) f p e ∙ cond-true (isPiece (y .0) f p) _ _ o
+pub found-new : (xs : List NotedPiece) (y : NotedPiece) (f p : ℕ) → printAt xs f p ≡ None → isPiece (y .key) f p ≡ true → printAt (xs ++ y ∷ []) f p ≡ Some (y .print)
+found-new xs y f p e o = found-behind xs (y ∷ []) f p e ∙ cond-true (isPiece (y .key) f p) _ _ o
 
 -- the first pair of a piece decides
-pub found-first : (xs : List (PieceKey × ℕ)) (i : ℕ) (y : PieceKey × ℕ) (f p : ℕ) → nth xs i ≡ Some y → printAt (take i xs) f p ≡ None →
-    isPiece (y .0) f p ≡ true → Some (y .1) ≡ printAt xs f p
+pub found-first : (xs : List NotedPiece) (i : ℕ) (y : NotedPiece) (f p : ℕ) → nth xs i ≡ Some y → printAt (take i xs) f p ≡ None →
+    isPiece (y .key) f p ≡ true → Some (y .print) ≡ printAt xs f p
 found-first [] i y f p at e o = let z : _≡_ {A = ℕ} 0 1 = cc in absurd (omega arith)
-found-first (a ∷ xs) zero y f p at e o = let same : a ≡ y = cc in rw same (sym (cond-true (isPiece (y .0) f p) _ _ o))
+found-first (a ∷ xs) zero y f p at e o = let same : a ≡ y = cc in rw same (sym (cond-true (isPiece (y .key) f p) _ _ o))
 found-first (a ∷ xs) (suc i) y f p at e o =
-    elim (cases-bool (isPiece (a .0) f p)) [
-      | inl t ↦ let same = cond-true (isPiece (a .0) f p) (Some (a .1)) (printAt (take i xs) f p) t in let z : _≡_ {A = ℕ} 0 1 = cc in absurd (omega arith)
-      | inr t ↦ found-first xs i y f p at (sym (cond-false (isPiece (a .0) f p) _ _ t) ∙ e) o ∙ sym (cond-false (isPiece (a .0) f p) _ _ t)
+    elim (cases-bool (isPiece (a .key) f p)) [
+      | inl t ↦ let same = cond-true (isPiece (a .key) f p) (Some (a .print)) (printAt (take i xs) f p) t in let z : _≡_ {A = ℕ} 0 1 = cc in absurd (omega arith)
+      | inr t ↦ found-first xs i y f p at (sym (cond-false (isPiece (a .key) f p) _ _ t) ∙ e) o ∙ sym (cond-false (isPiece (a .key) f p) _ _ t)
     ]
 
 -- the piece of a recorded key is recorded
-pub present-at : (xs : List (PieceKey × ℕ)) (i : ℕ) (y : PieceKey × ℕ) (f : ℕ) → nth xs i ≡ Some y → y .0 .file ≡ f → Present (printAt xs f) (y .0 .piece)
+pub present-at : (xs : List NotedPiece) (i : ℕ) (y : NotedPiece) (f : ℕ) → nth xs i ≡ Some y → y .key .file ≡ f → Present (printAt xs f) (y .key .piece)
 present-at [] i y f at e = let z : _≡_ {A = ℕ} 0 1 = cc in absurd (omega arith)
-present-at (a ∷ xs) zero y f at e = let same : a ≡ y = cc in rw same (y .1, cond-true (isPiece (y .0) f (y .0 .piece)) _ _ (this-piece (y .0) f (y .0 .piece) e refl))
+present-at (a ∷ xs) zero y f at e = let same : a ≡ y = cc in rw same (y .print, cond-true (isPiece (y .key) f (y .key .piece)) _ _ (this-piece (y .key) f (y .key .piece) e refl))
 present-at (a ∷ xs) (suc i) y f at e =
-    elim (cases-bool (isPiece (a .0) f (y .0 .piece))) [
-      | inl t ↦ (a .1, cond-true (isPiece (a .0) f (y .0 .piece)) _ _ t)
-      | inr t ↦ (let p = present-at xs i y f at e in (p .0, cond-false (isPiece (a .0) f (y .0 .piece)) _ _ t ∙ p .1))
+    elim (cases-bool (isPiece (a .key) f (y .key .piece))) [
+      | inl t ↦ (a .print, cond-true (isPiece (a .key) f (y .key .piece)) _ _ t)
+      | inr t ↦ (let p = present-at xs i y f at e in (p .0, cond-false (isPiece (a .key) f (y .key .piece)) _ _ t ∙ p .1))
     ]

@@ -1,4 +1,4 @@
+pub mod Files
 pub mod Prints
-pub mod Records
 pub mod Same
 pub mod Verdicts

@@ -1,41 +1,31 @@
-// Making a history, and noting pieces in it.
+// Recording all pieces of a file.
 ghost use mathlib.Core.Path.{_≡_};
-ghost use mathlib.Core.List.{[]};
-ghost use lib.ListN.{length};
 ghost use denote.Ref.{name};
 ghost use Rattle.std.specs.Results.{Cases};
-ghost use Rattle.history.specs.Records.{recorded, roomFor, noted, noteAnswer, pairsAfter};
+ghost use Rattle.books.specs.Books.{bookKeys, bookRoom};
+ghost use Rattle.history.specs.Files.{fileAnswer, piecesAfter};
 use crate::record::History;
 use crate::record::NotedPiece;
-use books::book::Book;
 use keys::piece::PieceKey;
 use refusals::kinds::BookRefusal;
 
-impl<'a> History<'a> {
-    // An empty history over the lent slice.
-    pub fn new(slots: &'a mut [NotedPiece]) -> History<'a>
-        ensures pairs { λ r. ⌜ recorded r ≡ [] ⌝ }
-        ensures room { λ r. ⌜ roomFor r ≡ length (now (slots .entry)) ⌝ }
-    {
-        History { book: Book::new(slots) }
+// Records the file's pieces, from 0 on, with these fingerprints; refused where the book has not room for all, and then nothing is written.
+pub fn note_file(history: &mut History, file: u32, prints: &[u64]) -> Result<(), BookRefusal>
+    ensures answer { λ r. ⌜ r ≡ fileAnswer (bookKeys (now (history .entry))) (bookRoom (now (history .entry))) (now (prints .entry)) ⌝ }
+    ensures pieces { λ r. ⌜ bookKeys (now (history .exit)) ≡ piecesAfter (bookKeys (now (history .entry))) (bookRoom (now (history .entry))) file (now (prints .entry)) ⌝ }
+    ensures room { λ r. ⌜ bookRoom (now (history .exit)) ≡ bookRoom (now (history .entry)) ⌝ }
+    ensures refused { λ r. ⌜ Cases r (λ _. Unit {0}) (λ _. now (history .exit) ≡ now (history .entry)) ⌝ }
+    ensures lender { λ r. ⌜ name (now (history .exit) .slots) ≡ name (now (history .entry) .slots) ⌝ }
+{
+    if history.room() - history.count() < prints.len() || prints.len() > 0xffff_ffff {
+        return Err(BookRefusal::Full);
     }
-
-    // How many pieces are recorded.
-    pub fn count(&self) -> usize
-        ensures { λ r. ⌜ r ≡ length (recorded (now (self .entry))) ⌝ }
-    {
-        self.book.count()
+    for (k, print) in prints.iter().enumerate() {
+        let key = PieceKey {
+            file,
+            piece: k as u32,
+        };
+        history.push(NotedPiece { key, print: *print })?;
     }
-
-    // Records a piece with its fingerprint; refused where the book is full, and then nothing is written.
-    pub fn note(&mut self, key: PieceKey, print: u64) -> Result<(), BookRefusal>
-        ensures answer { λ r. ⌜ r ≡ noteAnswer (recorded (now (self .entry))) (roomFor (now (self .entry))) ⌝ }
-        ensures pairs { λ r. ⌜ recorded (now (self .exit)) ≡ pairsAfter (recorded (now (self .entry))) (roomFor (now (self .entry))) (noted key print) ⌝ }
-        ensures room { λ r. ⌜ roomFor (now (self .exit)) ≡ roomFor (now (self .entry)) ⌝ }
-        ensures refused { λ r. ⌜ Cases r (λ _. Unit {0}) (λ _. now (self .exit) ≡ now (self .entry)) ⌝ }
-        ensures lender { λ r. ⌜ name (now (self .exit) .book .slots) ≡ name (now (self .entry) .book .slots) ⌝ }
-    {
-        self.book.push(NotedPiece { key, print })?;
-        Ok(())
-    }
+    Ok(())
 }

@@ -1,4 +1,4 @@
-// The record itself: a book of pieces with their fingerprints.
+// The record of one build: a book of its pieces with their fingerprints.
 use books::book::Book;
 use keys::piece::PieceKey;
 
@@ -10,7 +10,4 @@ pub struct NotedPiece {
 }
 
 // The pieces of one build, in the order of their arrival.
-#[derive(Drop)]
-pub struct History<'a> {
-    pub(crate) book: Book<'a, NotedPiece>,
-}
+pub type History<'a> = Book<'a, NotedPiece>;

@@ -10,4 +10,4 @@ pub loop-words-again : need.loop-words-again
 loop-words-again c =
     subst (λ (ws : List (List ℕ)). Sofar (left (c .args .words)) ws (vec-items (c .push .last .self))) (sym (c .u64 .ensures .rest))
     (sofar-more (left (c .args .words)) (left (c .loop-words .words)) (vec-items (c .loop-words .prints)) (vec-items (c .push .last .self)) (c .in-Some .print)
-     (c .loop-words .inv) (sym (c .loop-words-test .ensures tt)) (sym (c .in-Some .ensures tt .number)) (c .in-Continue-push .ensures tt .items))
+    (c .loop-words .inv) (sym (c .loop-words-test .ensures tt)) (sym (c .in-Some .ensures tt .number)) (c .in-Continue-push .ensures tt .items))
