@@ -5,16 +5,16 @@
 --   buildOf     the build that a word names
 --   numbersOf   the numbers that words write, where each one does
 --   lineOf      the line that words write, or nothing
-use mathlib.Core.Bool.{Bool, true, false, cond, _&&_}
+use mathlib.Core.Bool.{cond}
 use mathlib.Core.List.{List, [], _∷_}
 use Prim.Native.Nat.{ℕ}
-use lib.Dec.{eqb}
-use lib.ListN.{length, getD}
+use lib.Chars.{codes}
+use Rattle.std.specs.shelf.Text.{sameBytes}
 use Rattle.std.specs.Of.Vec.{vec-items}
 use Rattle.std.specs.declared.option.Option.{Option}
 use Rattle.std.specs.declared.option.Option.the-variants.{Some, None}
 use Rattle.text.specs.Numbers.{numberOf}
-use Rattle.text.specs.Left.{behindFirst, readFirst}
+use Rattle.text.specs.Left.{behindFirst, readFirst, ifThere}
 use Rattle.text.specs.Keyed.{both}
 use Rattle.compare.specs.declared.line.Build.{Build}
 use Rattle.compare.specs.declared.line.Build.the-variants.{Was, Now}
@@ -30,13 +30,9 @@ pub record Line : Type 0 where
 abbrev pub meaning : FileLine → Line
 meaning l = record { build = l .build; file = l .file; size = l .length; prints = vec-items (l .prints) }
 
--- the word is these three bytes
-abbrev pub spells : ℕ → ℕ → ℕ → List ℕ → Bool
-spells a b c w = eqb (length w) 3 && eqb (getD w 0 0) a && eqb (getD w 1 0) b && eqb (getD w 2 0) c
-
 -- "was" is the old build, "now" the new one
 abbrev pub buildOf : List ℕ → Option Build
-buildOf w = cond (spells 119 97 115 w) (Some Was) (cond (spells 110 111 119 w) (Some Now) None)
+buildOf w = cond (sameBytes w (codes "was")) (Some Was) (cond (sameBytes w (codes "now")) (Some Now) None)
 
 -- the 64-bit numbers that the words write, where each word writes one
 abbrev pub numbersOf : List (List ℕ) → Option (List ℕ)
@@ -45,11 +41,6 @@ numbersOf (w ∷ ws) = both (λ (n : ℕ) (ns : List ℕ). n ∷ ns) (numberOf 6
 
 abbrev pub theLine : Build → ℕ → ℕ → List ℕ → Line
 theLine b f l ps = record { build = b; file = f; size = l; prints = ps }
-
--- f of a value, where it is there
-abbrev pub ifThere : {A B : Type 0} → Option A → (A → Option B) → Option B
-ifThere None f = None
-ifThere (Some a) f = f a
 
 -- the build, the file's 32-bit number, its 64-bit length, and fingerprints to the end of the line
 abbrev pub lineOf : List (List ℕ) → Option Line

@@ -11,16 +11,19 @@ use crate::line::Build;
 use crate::line::FileLine;
 use std::alloc::AllocError;
 use std::alloc::Global;
+use text::cutting::same;
 use text::split::Parts;
 
 // The build that a word names.
 fn build_of(word: &[u8]) -> Option<Build>
     ensures { λ r. ⌜ r ≡ buildOf (now (word .entry)) ⌝ }
 {
-    match word {
-        b"was" => Some(Build::Was),
-        b"now" => Some(Build::Now),
-        _ => None,
+    if same(word, b"was") {
+        Some(Build::Was)
+    } else if same(word, b"now") {
+        Some(Build::Now)
+    } else {
+        None
     }
 }
 

@@ -1,6 +1,7 @@
-// Cutting a text at a byte.
+// Cutting a text at a byte, and comparing texts.
 ghost use mathlib.Core.Path.{_≡_};
 ghost use Rattle.std.specs.Options.{mapped};
+ghost use Rattle.std.specs.shelf.Text.{sameBytes};
 ghost use denote.Ref.{now as held};
 ghost use Rattle.text.specs.Parts.{upTo, beyond};
 
@@ -15,4 +16,11 @@ pub fn cut(text: &[u8], separator: u8) -> (&[u8], Option<&[u8]>)
         }
     }
     (text, None)
+}
+
+// Whether both texts have the same bytes.
+pub fn same(a: &[u8], b: &[u8]) -> bool
+    ensures { λ r. ⌜ r ≡ sameBytes (now (a .entry)) (now (b .entry)) ⌝ }
+{
+    a == b
 }

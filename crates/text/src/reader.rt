@@ -4,8 +4,9 @@ ghost use Rattle.std.specs.Options.{mapped};
 ghost use denote.Ref.{now as held};
 ghost use Rattle.text.specs.Numbers.{numberOf, integerOf};
 ghost use Rattle.text.specs.Parts.{parts, words};
-ghost use Rattle.text.specs.Left.{left, firstOf, behindFirst, readFirst, isNone};
+ghost use Rattle.text.specs.Left.{left, firstOf, behindFirst, readFirst, isNone, wordIs};
 use crate::cutting::cut;
+use crate::cutting::same;
 use crate::numbers::read_i32;
 use crate::numbers::read_u32;
 use crate::numbers::read_u64;
@@ -45,6 +46,14 @@ impl<'a> Parts<'a> {
         let (part, rest) = cut(text, self.separator);
         self.rest = rest;
         Some(part)
+    }
+
+    // The next part, where it is this text.
+    pub fn keyword(&mut self, text: &[u8]) -> Option<()>
+        ensures found { λ r. ⌜ r ≡ readFirst (wordIs (now (text .entry))) (left (now (self .entry))) ⌝ }
+        ensures rest { λ r. ⌜ left (now (self .exit)) ≡ behindFirst (left (now (self .entry))) ⌝ }
+    {
+        if same(self.part()?, text) { Some(()) } else { None }
     }
 
     // The next part, as a 32-bit number.
