@@ -32,7 +32,10 @@ pub impl fmt::Display for Answer as AnswerDisplay {
         match *self {
             Answer::Recorded(n) => write!(f, "{n} pieces"),
             Answer::Judged(verdict) => Reason(verdict).fmt(f),
-            Answer::WrongCount { expected, given } => write!(f, "{expected} pieces expected, {given} given"),
+            Answer::WrongCount { expected, given } => write!(
+                f,
+                "{expected} pieces expected, {given} given"
+            ),
             Answer::AlreadyRecorded => write!(f, "already recorded"),
             Answer::Refused(refusal) => {
                 let number = refusal.number();

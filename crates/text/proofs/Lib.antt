@@ -2,3 +2,4 @@ pub mod Reading
 pub mod Cuts
 pub mod Inverse
 pub mod Joining
+pub mod Telling

@@ -2,6 +2,7 @@
 pub mod cutting;
 pub mod keyed;
 pub mod laws;
+pub mod lines;
 pub mod numbers;
 pub mod reader;
 pub mod split;

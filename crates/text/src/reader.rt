@@ -53,7 +53,11 @@ impl<'a> Parts<'a> {
         ensures found { λ r. ⌜ r ≡ readFirst (wordIs (now (text .entry))) (left (now (self .entry))) ⌝ }
         ensures rest { λ r. ⌜ left (now (self .exit)) ≡ behindFirst (left (now (self .entry))) ⌝ }
     {
-        if same(self.part()?, text) { Some(()) } else { None }
+        if same(self.part()?, text) {
+            Some(())
+        } else {
+            None
+        }
     }
 
     // The next part, as a 32-bit number.
