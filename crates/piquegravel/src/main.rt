@@ -1,0 +1,39 @@
+// The program: commands over files of lines, each answered line by line on standard output.
+use std::error::AnyError;
+
+mod comparing;
+mod keying;
+mod output;
+mod usage;
+
+use comparing::run_compare;
+use keying::run_keys;
+use std::fs;
+use std::io::Read;
+use usage::Command;
+use usage::read_commands;
+
+// All bytes of a file; `-` is standard input.
+fn input(rt: &LibcRuntime, file: &str) -> Result<Vec<u8>, AnyError> {
+    if file == "-" {
+        let mut bytes = Vec::new(rt.alloc());
+        rt.stdin().read_to_end(&mut bytes)?;
+        return Ok(bytes);
+    }
+    Ok(fs::read(rt, file)?)
+}
+
+fn run(rt: &LibcRuntime) -> Result<(), AnyError> {
+    let commands = read_commands(rt)?;
+    for command in commands.iter() {
+        match command {
+            Command::Compare { file } => run_compare(rt, input(rt, file.as_str())?.as_slice())?,
+            Command::Keys { file } => run_keys(rt, input(rt, file.as_str())?.as_slice())?,
+        }
+    }
+    Ok(())
+}
+
+fn main(rt: LibcRuntime) -> Result<(), AnyError> {
+    rt.report(run(&rt))
+}
