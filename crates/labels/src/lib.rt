@@ -1,7 +1,21 @@
 // The labels of a relabelled list: how many items a range of labels may hold, which label each item has, and the laws of both.
 ghost use mathlib.Core.Path.{_≡_};
+ghost use Prim.Native.Nat.{ℕ};
+ghost use Rattle.std.specs.declared.result.Result.{Result};
+ghost use Rattle.refusals.specs.declared.kinds.OrderRefusal.{OrderRefusal};
 ghost use Rattle.labels.specs.Capacity.{roomOf};
 ghost use Rattle.labels.specs.Laws.{Always-room, Smallest-range, Labels-rise};
+use refusals::kinds::OrderRefusal;
+
+// An order that can be asked for labels.
+pub trait Labelled {
+    // what it answers for an item: the label, or a refusal
+    ghost labels: { Self → ℕ → Result ℕ OrderRefusal };
+
+    // The label of a, or of the part of the order that a lies in.
+    fn label(&self, a: u32) -> Result<u32, OrderRefusal>
+        ensures { λ r. ⌜ r ≡ labels (now (self .entry)) a ⌝ };
+}
 
 // The capacity of an aligned range of 2^i labels, for each i below 32.
 const CAPACITY: [u64; 32] = [
