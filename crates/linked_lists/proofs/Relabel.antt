@@ -30,7 +30,7 @@ use Rattle.linked_lists.specs.declared.row.Row.{Row}
 use Rattle.order.proofs.Members.{member-cases, member-behind-cases}
 use Rattle.order.specs.Items.{member, behind, Distinct}
 
-distinct-behind : (xs : List ℕ) (a n : ℕ) → (member xs n ≡ true → ⊥) → Distinct xs → Distinct (behind xs a n)
+pub distinct-behind : (xs : List ℕ) (a n : ℕ) → (member xs n ≡ true → ⊥) → Distinct xs → Distinct (behind xs a n)
 distinct-behind [] a n new d = tt
 distinct-behind (x ∷ xs) a n new d =
     let xn : n ≡ x → ⊥ = λ e. new (simp (eq-eqb x n (sym e))) in
