@@ -12,14 +12,13 @@ use Rattle.std.specs.declared.result.Result.{Result}
 use Rattle.std.specs.declared.result.Result.the-variants.{Ok, Err}
 use Rattle.std.specs.declared.option.Option.the-variants.{Some}
 use Rattle.refusals.specs.declared.kinds.OrderRefusal.{OrderRefusal}
-use Rattle.refusals.specs.declared.kinds.OrderRefusal.the-variants.{UnknownItem, Full}
 use Rattle.order.specs.Items.{member, Distinct, behind, afterAnswer, itemsAfter}
 use Rattle.labels.specs.Labels.{Entries, inserted, entriesAfter}
 use Rattle.linked_lists.specs.Chain.{walk}
 use Rattle.grouping.specs.declared.item.Item.{Item}
 use Rattle.grouping.specs.Blocks.{blocksWith, groupEntriesAfter, home}
 use Rattle.grouping.specs.Groups.{Sound, listed, blocked, groupAt, nextAt, prevAt, firstOf, runOf, linkedRows, regrouped}
-use Rattle.grouping.proofs.Replies.{is-known, not-known, grouped}
+use Rattle.grouping.proofs.Replies.{grouped}
 use Rattle.grouping.proofs.Adding.{Added, fd, few-groups, home-at, size-is, code-within, code-distinct, put-easy, put-divided}
 
 -- what a call that gave item n leaves
@@ -34,18 +33,7 @@ ok-apart : (e : OrderRefusal) (k : ℕ) → _≡_ {A = Result ℕ OrderRefusal} 
 ok-apart e k q = let z : _≡_ {A = ℕ} 0 1 = cc in absurd (omega arith)
 
 module _ {rows : List Item} {groups : List ℕ} {glimit n limit : ℕ} (s : Sound rows groups glimit n limit) (a : ℕ) where
-  pub after-unknown : n ≤ a → Err UnknownItem ≡ afterAnswer (listed rows n) limit a
-  after-unknown h = sym (cond-false _ _ _ (not-known s a h))
-
-  pub after-full : a < n → limit ≤ n → Err Full ≡ afterAnswer (listed rows n) limit a
-  after-full h l = sym (cond-true _ _ _ (is-known s a h) ∙ cond-false _ _ _ (le-ltb (length (listed rows n)) limit (let e = s .chain .long in omega arith)))
-
   module _ (h : a < n) (l : n < limit) where
-    pub after-ok : Ok n ≡ afterAnswer (listed rows n) limit a
-    after-ok =
-        ap (λ (k : ℕ). Ok k) (sym (s .chain .long))
-        ∙ sym (cond-true _ _ _ (is-known s a h) ∙ cond-true _ _ _ (lt-ltb (length (listed rows n)) limit (let e = s .chain .long in omega arith)))
-
     -- the groups have room for one more
     module _ (within : (g : ℕ) → member groups g ≡ true → g < length groups) where
       group-known : ltb (groupAt rows a) (length groups) ≡ true

@@ -1,3 +1,4 @@
+pub mod Decisions
 pub mod Rows
 pub mod Looks
 pub mod Insert

@@ -19,9 +19,9 @@ use Rattle.linked_lists.proofs.Marked.{label-marked}
 use Rattle.linked_lists.proofs.Walks.{length-labelled}
 use Rattle.linked_lists.specs.Chain.{Sound, Chain, Chained, listed, labelled, blank, labelAt, nextAt, prevAt}
 use Rattle.linked_lists.specs.declared.row.Row.{Row}
-use Rattle.order.specs.Items.{earlier, following, known, beforeAnswer, successorAnswer, afterAnswer}
+use Rattle.order.specs.Items.{earlier, following, known, beforeAnswer, successorAnswer}
 use Rattle.refusals.specs.declared.kinds.OrderRefusal.{OrderRefusal}
-use Rattle.refusals.specs.declared.kinds.OrderRefusal.the-variants.{UnknownItem, Full}
+use Rattle.refusals.specs.declared.kinds.OrderRefusal.the-variants.{UnknownItem}
 
 module _ {rows : List Row} {n limit : ℕ} (s : Sound rows n limit) where
   pub is-known : (a : ℕ) → a < n → known (listed rows n) a ≡ true
@@ -64,16 +64,6 @@ module _ {rows : List Row} {n limit : ℕ} (s : Sound rows n limit) where
 
   pub label-unknown : (a : ℕ) → n ≤ a → Err UnknownItem ≡ labelAnswer (labelled rows n) a
   label-unknown a h = sym (cond-false _ _ _ (le-ltb a (length (labelled rows n)) (subst (λ (k : ℕ). k ≤ a) (sym (length-labelled rows n (s .chain))) h)))
-
-  pub after-unknown : (a : ℕ) → n ≤ a → Err UnknownItem ≡ afterAnswer (listed rows n) limit a
-  after-unknown a h = sym (cond-false _ _ _ (not-known a h))
-
-  pub after-full : (a : ℕ) → a < n → limit ≤ n → Err Full ≡ afterAnswer (listed rows n) limit a
-  after-full a h f = sym (cond-true _ _ _ (is-known a h) ∙ cond-false _ _ _ (le-ltb (length (listed rows n)) limit (let e = s .chain .long in omega arith)))
-
-  pub after-ok : (a : ℕ) → a < n → n < limit → Ok n ≡ afterAnswer (listed rows n) limit a
-  after-ok a h f =
-      sym (cond-true _ _ _ (is-known a h) ∙ (cond-true _ _ _ (lt-ltb (length (listed rows n)) limit (let e = s .chain .long in omega arith)) ∙ ap (λ (k : ℕ). Ok k) (s .chain .long)))
 
   pub after-sound : (F : List Row) → n < limit → length F ≡ length rows → Chained F (n + 1) → Sound F (n + 1) limit
   after-sound F f g ch =

@@ -1,3 +1,3 @@
-pub mod Makers
+pub mod Decisions
 pub mod Chain
 pub mod Ranges

@@ -6,10 +6,11 @@ ghost use Rattle.std.specs.Of.Vec.{vec-len};
 ghost use Rattle.std.specs.declared.option.Option.the-variants.{Some, None};
 ghost use Rattle.order.specs.Items.{afterAnswer, itemsAfter};
 ghost use Rattle.labels.specs.Labels.{fresh, entriesAfter, labelAnswer};
-ghost use Rattle.linked_lists.specs.Makers.{makerRefusal};
+ghost use Rattle.linked_lists.specs.Decisions.{makerRefusal};
 ghost use Rattle.relabelled.specs.Meaning.{relabelledItems, relabelledEntries};
 use crate::list::RelabelledList;
 use crate::place::place;
+use crate::refusing::after_refusal;
 use labels::Labelled;
 use linked_lists::row::Row;
 use order::VersionOrder;
@@ -50,11 +51,8 @@ impl RelabelledList {
         ensures refused { λ r. ⌜ Cases r (λ _. Unit {0}) (λ _. now (self .exit) ≡ now (self .entry)) ⌝ }
     {
         let n = self.count;
-        if a >= n {
-            return Err(OrderRefusal::UnknownItem);
-        }
-        if n >= self.limit {
-            return Err(OrderRefusal::Full);
+        if let Some(refusal) = after_refusal(n, self.limit, a) {
+            return Err(refusal);
         }
         place(&mut self.rows, n, a);
         self.count = n + 1;

@@ -4,3 +4,4 @@ mod links;
 pub mod list;
 mod place;
 mod ranges;
+pub mod refusing;
