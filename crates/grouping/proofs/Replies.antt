@@ -18,6 +18,7 @@ use Rattle.grouping.proofs.Places.{keys-same, keys-apart}
 use Rattle.grouping.specs.Blocks.{flat}
 use Rattle.grouping.specs.Groups.{Sound, listed, blocked, blank, groupAt, rankAt, nextAt, prevAt, key}
 use Rattle.grouping.specs.declared.item.Item.{Item}
+use Rattle.labels.specs.Labels.{Entries, labelOf, labelAnswer}
 use Rattle.linked_lists.proofs.Looks.{above-earlier, linked-following}
 use Rattle.order.proofs.Positions.{position-apart, earlier-position}
 use Rattle.order.specs.Items.{member, Distinct, earlier, following, known, beforeAnswer, successorAnswer, position}
@@ -93,3 +94,16 @@ module _ {rows : List Item} {groups : List ℕ} {glimit n limit : ℕ} (s : Soun
 
   pub successor-unknown : (a : ℕ) → n ≤ a → Err UnknownItem ≡ successorAnswer (listed rows n) a
   successor-unknown a h = sym (cond-false _ _ _ (not-known a h))
+
+  pub label-unknown : (a v : ℕ) → n ≤ a → Err UnknownItem ≡ cond (known (listed rows n) a) (Ok v) (Err UnknownItem)
+  label-unknown a v h = sym (cond-false _ _ _ (not-known a h))
+
+  -- the label of the group that the code read
+  pub label-ok : (a : ℕ) (x : Item) (r : Result ℕ OrderRefusal) (es : Entries) → a < n → x ≡ getD rows a x → ((g : ℕ) → member groups g ≡ true → g < length groups) →
+      length es ≡ length groups → r ≡ labelAnswer es (x .group) → r ≡ cond (known (listed rows n) a) (Ok (labelOf es (groupAt rows a))) (Err UnknownItem)
+  label-ok a x r es h ex inn le e =
+      let gx : x .group ≡ groupAt rows a = ap (λ (q : Item). q .group) (row-read a x h ex) in
+      let low = inn (groupAt rows a) (grouped a h) in
+      e
+      ∙ (ap (labelAnswer es) gx
+      ∙ (cond-true _ _ _ (lt-ltb (groupAt rows a) (length es) (omega arith)) ∙ sym (cond-true _ _ _ (is-known a h))))

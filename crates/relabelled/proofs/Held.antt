@@ -13,6 +13,7 @@ use Rattle.relabelled.specs.declared.list.RelabelledList.{RelabelledList}
 use Prim.Native.Nat.{ℕ, _<_, _≤_}
 use native.Mathlib.Omega.{arith}
 use lib.ListN.{length}
+use Rattle.std.proofs.shelf.Lists.{length-map}
 
 pub items-distinct : (o : RelabelledList) → Distinct (relabelledItems o)
 items-distinct o = above-distinct _ 0 (relabelledItems o) (opened (o .sound) .chain .rising)
@@ -34,3 +35,6 @@ items-numbered o = let s = opened (o .sound) in numbered-list (relabelledItems o
 
 pub items-fresh : (o : RelabelledList) → relabelledEntries o ≡ fresh → relabelledItems o ≡ 0 ∷ []
 items-fresh o h = sym (unmark _ (relabelledItems o)) ∙ ap itemsOf h
+
+pub entries-long : (o : RelabelledList) → length (relabelledEntries o) ≡ length (relabelledItems o)
+entries-long o = length-map (relabelledItems o) _
