@@ -3,10 +3,15 @@
 --   wordText    the first word of a line that names items
 --   lineText    a line: words and decimal numbers, with one space between
 --   Narrow      the numbers of a line have 32 bits
+--   Asks        a line is its word, one space, and a text
+--   plain       a text begins as a decimal does
 --   answerText  an answer
-use mathlib.Core.Bool.{Bool, true, false}
+use mathlib.Core.Path.{_≡_}
+use mathlib.Core.Bool.{Bool, true, false, cond}
 use mathlib.Core.List.{List, [], _∷_, _++_}
 use Prim.Native.Nat.{ℕ, _<_, _^_}
+use lib.Dec.{eqb}
+use lib.ListN.{length, getD}
 use Rattle.std.specs.Written.{decimal}
 use Rattle.std.specs.declared.option.Option.{Option}
 use Rattle.std.specs.declared.option.Option.the-variants.{Some, None}
@@ -44,6 +49,18 @@ Narrow (Before a b) = (a < 2 ^ 32) × (b < 2 ^ 32)
 Narrow (Successor a) = a < 2 ^ 32
 Narrow Count = Unit {0}
 Narrow (Label a) = a < 2 ^ 32
+
+-- the line l is the word w, one space, and the text ds
+abbrev pub Asks : Word → List ℕ → OrderLine → Type 0
+Asks w ds (After a) = (w ≡ word.After) × (ds ≡ decimal a)
+Asks w ds (Before a b) = (w ≡ word.Before) × (ds ≡ decimal a ++ (32 ∷ decimal b))
+Asks w ds (Successor a) = (w ≡ word.Successor) × (ds ≡ decimal a)
+Asks w ds Count = ⊥
+Asks w ds (Label a) = (w ≡ word.Label) × (ds ≡ decimal a)
+
+-- bs is not empty, begins with no plus, and with a zero only where that is all
+abbrev pub plain : List ℕ → Bool
+plain bs = cond (eqb (length bs) 0) false (cond (eqb (getD bs 0 0) 43) false (cond (eqb (getD bs 0 0) 48) (eqb (length bs) 1) true))
 
 -- an answer: a number, yes or no, nothing where there is no next item, or refused and the number of the refusal
 abbrev pub answerText : OrderAnswer → List ℕ
