@@ -1,30 +1,30 @@
 -- One item more, right behind another: the walks that find its group, and what the rows then mean.
 use mathlib.Core.Path.{_≡_, refl, sym, ap, subst, _∙_}
 use mathlib.Core.Logic.{_⊎_, inl, inr}
-use mathlib.Core.Bool.{Bool, true, false, cond}
+use mathlib.Core.Bool.{true, false}
 use mathlib.Core.List.{List, [], _∷_, _++_}
-use Prim.Native.Nat.{ℕ, zero, suc, _+_, _*_, _≤_, _<_}
+use Prim.Native.Nat.{ℕ, _+_, _*_, _≤_, _<_}
 use native.Mathlib.Omega.{arith}
-use lib.ListN.{length, getD}
-use Rattle.std.proofs.shelf.Tests.{cases-eq, cases-bool, eq-eqb, ne-eqb, false≢true, both-ways}
+use lib.ListN.{length}
+use Rattle.std.proofs.shelf.Tests.{cases-eq, cases-bool, ne-eqb, false≢true, both-ways}
 use Rattle.std.specs.Options.{Cases}
 use Rattle.std.specs.declared.option.Option.{Option}
 use Rattle.std.specs.declared.option.Option.the-variants.{Some, None}
-use Rattle.grouping.proofs.Blocks.{member-append, member-left, member-right, inside-at, grouped-above, blocks-are, groups-few}
+use Rattle.grouping.proofs.Blocks.{member-left, member-right, inside-at, grouped-above, blocks-are, groups-few}
 use Rattle.grouping.proofs.Found.{Found, find, flat-parts, home-parts, same-groups, more-groups, Numbered, Parted}
 use Rattle.grouping.proofs.Laws.{groups-flat}
 use Rattle.grouping.proofs.Linking.{Links, links-behind, listed-linked, length-linked, group-x, group-n, rank-x, next-fits}
 use Rattle.grouping.proofs.Regrouped.{regrouped-length, regrouped-out, regrouped-next, regrouped-prev, regrouped-numbered, regrouped-parted}
 use Rattle.grouping.proofs.Walked.{headOf, head-behind, head-in, linked-from, walk-is, run-is, first-is}
-use Rattle.grouping.specs.Blocks.{flat, blocksWith, home, blocksOf, Inside, Block, Grouped}
-use Rattle.grouping.specs.Groups.{Sound, blank, listed, blocked, groupAt, rankAt, nextAt, prevAt, key, firstOf, runOf, linkedRows, regrouped}
+use Rattle.grouping.specs.Blocks.{flat, blocksWith, home, blocksOf, Inside, Grouped}
+use Rattle.grouping.specs.Groups.{Sound, listed, blocked, groupAt, rankAt, nextAt, prevAt, key, firstOf, runOf, linkedRows, regrouped}
 use Rattle.grouping.specs.declared.item.Item.{Item}
 use Rattle.linked_lists.proofs.Insert.{linked-same, backed-same, above-same}
 use Rattle.linked_lists.proofs.Looks.{above-distinct}
 use Rattle.linked_lists.proofs.Relabel.{distinct-behind}
 use Rattle.linked_lists.proofs.Progress.{walk-same}
 use Rattle.linked_lists.specs.Chain.{Linked, Backed, Above, Chain, walk}
-use Rattle.order.proofs.Members.{member-here, member-there, member-behind-new, member-behind-old, member-behind-cases, long-behind, behind-left, behind-right, tail-distinct}
+use Rattle.order.proofs.Members.{member-here, member-there, member-behind-new, member-behind-cases, long-behind, behind-left, behind-right, tail-distinct}
 use Rattle.order.specs.Items.{member, behind, Distinct, position}
 
 distinct-left : (xs ys : List ℕ) → Distinct (xs ++ ys) → Distinct xs

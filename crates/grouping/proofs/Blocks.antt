@@ -1,14 +1,14 @@
 -- What grouped items say: they stand group by group, and their keys rise.
 use mathlib.Core.Path.{_≡_, refl, sym, ap, subst, _∙_}
 use mathlib.Core.Logic.{_⊎_, inl, inr}
-use mathlib.Core.Bool.{Bool, true, false, cond}
+use mathlib.Core.Bool.{true, false}
 use mathlib.Core.List.{List, [], _∷_, _++_}
-use Prim.Native.Nat.{ℕ, zero, suc, _+_, _*_, _≤_, _<_, _^_}
+use Prim.Native.Nat.{ℕ, suc, _+_, _*_, _≤_, _<_}
 use native.Mathlib.Omega.{arith}
 use lib.ListN.{length}
-use Rattle.std.proofs.shelf.Tests.{cases-eq, cases-bool, eq-eqb, ne-eqb, false≢true, both-ways}
+use Rattle.std.proofs.shelf.Tests.{eq-eqb, ne-eqb, false≢true, both-ways}
 use Rattle.std.proofs.shelf.Lists.{length-append}
-use Rattle.grouping.specs.Blocks.{flat, inGroup, blocksOf, Inside, Ranks, Block, Grouped}
+use Rattle.grouping.specs.Blocks.{flat, inGroup, blocksOf, Inside, Ranks, Grouped}
 use Rattle.linked_lists.proofs.Insert.{above-same}
 use Rattle.linked_lists.specs.Chain.{Above}
 use Rattle.order.proofs.Members.{member-cases, member-here, member-there}

@@ -1,9 +1,9 @@
 -- What the call `after` answers and leaves, of the list of items, the groups and their labels.
-use mathlib.Core.Path.{_≡_, refl, sym, ap, subst, _∙_}
-use mathlib.Core.Logic.{_⊎_, inl, inr}
+use mathlib.Core.Path.{_≡_, refl, sym, ap, _∙_}
+use mathlib.Core.Logic.{inl, inr}
 use mathlib.Core.Bool.{Bool, true, false, cond}
-use mathlib.Core.List.{List, [], _∷_}
-use Prim.Native.Nat.{ℕ, suc, _+_, _≤_, _<_}
+use mathlib.Core.List.{List}
+use Prim.Native.Nat.{ℕ, _+_, _≤_, _<_}
 use native.Mathlib.Omega.{arith}
 use lib.Dec.{ltb}
 use lib.ListN.{length}
@@ -16,8 +16,8 @@ use Rattle.order.specs.Items.{member, Distinct, behind, afterAnswer, itemsAfter
 use Rattle.labels.specs.Labels.{Entries, inserted, entriesAfter}
 use Rattle.linked_lists.specs.Chain.{walk}
 use Rattle.grouping.specs.declared.item.Item.{Item}
-use Rattle.grouping.specs.Blocks.{blocksWith, groupEntriesAfter, home}
-use Rattle.grouping.specs.Groups.{Sound, listed, blocked, groupAt, nextAt, prevAt, firstOf, runOf, linkedRows, regrouped}
+use Rattle.grouping.specs.Blocks.{home}
+use Rattle.grouping.specs.Groups.{Sound, blocked, groupAt, nextAt, prevAt, firstOf, runOf, linkedRows, regrouped}
 use Rattle.grouping.proofs.Replies.{grouped}
 use Rattle.grouping.proofs.Adding.{Added, fd, few-groups, home-at, size-is, code-within, code-distinct, put-easy, put-divided}
 

@@ -7,7 +7,7 @@ use Prim.Native.Nat.{ℕ, zero, suc, _+_, _-_, _≤_, _<_}
 use native.Mathlib.Omega.{arith}
 use lib.Dec.{ltb}
 use lib.ListN.{length, take, drop}
-use Rattle.std.proofs.shelf.Tests.{cases-eq, cases-bool, cases-lt, eq-eqb, ne-eqb, lt-ltb, le-ltb, false≢true, both-ways}
+use Rattle.std.proofs.shelf.Tests.{cases-bool, eq-eqb, ne-eqb, lt-ltb, le-ltb, false≢true, both-ways}
 use Rattle.std.proofs.shelf.Lists.{length-take-le, length-drop}
 use Rattle.grouping.proofs.Blocks.{member-append, member-left, member-right, inside-at, group-in}
 use Rattle.grouping.specs.Blocks.{flat, divided, blocksWith, home, Inside, Ranks, Block, Grouped}

@@ -1,16 +1,16 @@
 -- A table whose row 0 is blank holds item 0 alone, in group 0.
 use mathlib.Core.Path.{_≡_, refl, sym, ap, subst, _∙_}
-use mathlib.Core.Bool.{Bool, true, false, cond}
+use mathlib.Core.Bool.{true, false}
 use mathlib.Core.Logic.{inl, inr}
 use mathlib.Core.List.{List, [], _∷_}
-use Prim.Native.Nat.{ℕ, suc, _+_, _*_, _≤_, _<_}
+use Prim.Native.Nat.{ℕ, _+_, _*_, _≤_, _<_}
 use native.Mathlib.Omega.{arith}
-use lib.Dec.{eqb, ltb, lit≤}
+use lib.Dec.{lit≤}
 use lib.ListN.{length, getD, set}
 use Rattle.std.proofs.shelf.Tests.{eq-eqb, ne-eqb, false≢true, cases-eq}
 use Rattle.std.proofs.shelf.Lists.{getD-set-same, length-set}
 use Rattle.grouping.specs.Blocks.{flat, Grouped}
-use Rattle.grouping.specs.Groups.{Sound, listed, blocked, blank, groupAt, rankAt, key}
+use Rattle.grouping.specs.Groups.{Sound, blocked, blank, groupAt, rankAt, key}
 use Rattle.grouping.specs.declared.item.Item.{Item}
 use Rattle.order.specs.Items.{position}
 

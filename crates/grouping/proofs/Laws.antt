@@ -3,7 +3,7 @@ use mathlib.Core.Path.{_≡_, refl, sym, ap, subst, _∙_}
 use mathlib.Core.Logic.{inl, inr}
 use mathlib.Core.Bool.{Bool, true, false, cond}
 use mathlib.Core.List.{List, [], _∷_, _++_, append-assoc}
-use Prim.Native.Nat.{ℕ, suc, _≤_, _<_}
+use Prim.Native.Nat.{ℕ, _≤_, _<_}
 use native.Mathlib.Omega.{arith}
 use lib.Dec.{ltb}
 use lib.ListN.{length, take, drop}
@@ -11,7 +11,7 @@ use Rattle.std.proofs.shelf.Lists.{take-append-drop, length-take-le, length-dro
 use Rattle.std.proofs.shelf.Tests.{cases-lt, cases-bool, lt-ltb, le-ltb, cond-true, cond-false}
 use Rattle.order.specs.Items.{member, behind}
 use Rattle.order.proofs.Members.{behind-left, behind-right, tail-distinct, long-behind}
-use Rattle.grouping.specs.Blocks.{flat, divided, blocksWith}
+use Rattle.grouping.specs.Blocks.{flat, divided}
 use Rattle.grouping.specs.Laws.{Groups-hold-the-list, Small, Groups-stay-small}
 
 divided-flat : (b : List ℕ) (bs : List (List ℕ)) → flat (divided b bs) ≡ b ++ flat bs

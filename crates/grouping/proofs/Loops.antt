@@ -1,18 +1,17 @@
 -- The loops over the items of a group: back to its first, counting them, numbering them.
 use mathlib.Core.Path.{_≡_, refl, sym, ap, subst, _∙_}
-use mathlib.Core.Logic.{_⊎_, inl, inr}
-use mathlib.Core.Bool.{Bool, true, false, cond}
+use mathlib.Core.Bool.{true, cond}
 use mathlib.Core.List.{List, [], _∷_}
 use Prim.Native.Nat.{ℕ, zero, suc, _+_, _-_, _≤_, _<_}
 use native.Mathlib.Omega.{arith}
-use lib.Dec.{eqb, ltb}
+use lib.Dec.{ltb}
 use lib.ListN.{length, getD, set}
-use Rattle.std.proofs.shelf.Tests.{cases-eq, eq-eqb, ne-eqb, false≢true, both-ways}
-use Rattle.std.proofs.shelf.Lists.{getD-set-same, getD-set-other, length-set, getD-read}
+use Rattle.std.proofs.shelf.Tests.{eq-eqb, ne-eqb, both-ways}
+use Rattle.std.proofs.shelf.Lists.{getD-set-other, length-set, getD-read}
 use Rattle.std.specs.Options.{Cases}
 use Rattle.std.specs.declared.option.Option.{Option}
 use Rattle.std.specs.declared.option.Option.the-variants.{Some, None}
-use Rattle.grouping.specs.Groups.{blank, groupAt, rankAt, nextAt, prevAt, backTo, backStep, firstOf, runOf, regrouped}
+use Rattle.grouping.specs.Groups.{blank, groupAt, nextAt, prevAt, backTo, backStep, firstOf, runOf, regrouped}
 use Rattle.grouping.specs.declared.item.Item.{Item}
 use Rattle.linked_lists.specs.Chain.{walk}
 use Rattle.order.proofs.Members.{member-here, member-there}

@@ -1,5 +1,5 @@
 -- The invariant is a proposition, so a ghost field that holds it truncated gives it back.
-use mathlib.Core.Path.{_≡_, refl}
+use mathlib.Core.Path.{refl}
 use mathlib.Core.List.{List, [], _∷_}
 use mathlib.Core.Logic.{∥∥₁-elim}
 use native.Mathlib.Bridge.{le-prop}

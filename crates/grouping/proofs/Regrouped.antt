@@ -1,15 +1,14 @@
 -- What numbering the items of a group anew leaves.
 use mathlib.Core.Path.{_≡_, refl, sym, ap, subst, _∙_}
-use mathlib.Core.Logic.{_⊎_, inl, inr}
-use mathlib.Core.Bool.{Bool, true, false, cond}
+use mathlib.Core.Logic.{inl, inr}
+use mathlib.Core.Bool.{true, cond}
 use mathlib.Core.List.{List, [], _∷_}
-use Prim.Native.Nat.{ℕ, zero, suc, _≤_, _<_}
+use Prim.Native.Nat.{ℕ, suc, _<_}
 use native.Mathlib.Omega.{arith}
 use lib.Dec.{ltb}
 use lib.ListN.{length, getD, set}
 use Rattle.std.proofs.shelf.Tests.{cases-eq, both-ways}
 use Rattle.std.proofs.shelf.Lists.{getD-set-same, getD-set-other, length-set}
-use Rattle.std.specs.declared.option.Option.{Option}
 use Rattle.grouping.proofs.Found.{inside-same, Numbered, Parted}
 use Rattle.grouping.specs.Blocks.{Inside}
 use Rattle.grouping.specs.Groups.{blank, groupAt, rankAt, nextAt, prevAt, regrouped}

@@ -1,27 +1,27 @@
 -- What the reading calls answer.
-use mathlib.Core.Path.{_≡_, refl, sym, ap, subst, _∙_}
+use mathlib.Core.Path.{_≡_, sym, ap, subst, _∙_}
 use mathlib.Core.Logic.{_⊎_, inl, inr}
 use mathlib.Core.Bool.{Bool, true, false, cond}
-use mathlib.Core.List.{List, [], _∷_}
-use Prim.Native.Nat.{ℕ, suc, _+_, _*_, _≤_, _<_}
+use mathlib.Core.List.{List}
+use Prim.Native.Nat.{ℕ, _+_, _*_, _≤_, _<_}
 use native.Mathlib.Omega.{arith}
-use lib.Dec.{eqb, ltb}
+use lib.Dec.{ltb}
 use lib.ListN.{length, getD}
 use Rattle.std.proofs.shelf.Tests.{lt-ltb, le-ltb, and-left, and-right, and-from, cond-true, cond-false}
 use Rattle.std.proofs.shelf.Lists.{getD-read}
 use Rattle.std.specs.declared.option.Option.{Option}
-use Rattle.std.specs.declared.option.Option.the-variants.{Some, None}
+use Rattle.std.specs.declared.option.Option.the-variants.{Some}
 use Rattle.std.specs.declared.result.Result.{Result}
 use Rattle.std.specs.declared.result.Result.the-variants.{Ok, Err}
 use Rattle.grouping.proofs.Blocks.{group-in, rank-in}
-use Rattle.grouping.proofs.Places.{keys-same, keys-apart}
+use Rattle.grouping.proofs.Keys.{keys-same, keys-apart}
 use Rattle.grouping.specs.Blocks.{flat}
-use Rattle.grouping.specs.Groups.{Sound, listed, blocked, blank, groupAt, rankAt, nextAt, prevAt, key}
+use Rattle.grouping.specs.Groups.{Sound, listed, blocked, blank, groupAt, rankAt, nextAt, key}
 use Rattle.grouping.specs.declared.item.Item.{Item}
 use Rattle.labels.specs.Labels.{Entries, labelOf, labelAnswer}
 use Rattle.linked_lists.proofs.Looks.{above-earlier, linked-following}
 use Rattle.order.proofs.Positions.{position-apart, earlier-position}
-use Rattle.order.specs.Items.{member, Distinct, earlier, following, known, beforeAnswer, successorAnswer, position}
+use Rattle.order.specs.Items.{member, Distinct, known, beforeAnswer, successorAnswer, position}
 use Rattle.refusals.specs.declared.kinds.OrderRefusal.{OrderRefusal}
 use Rattle.refusals.specs.declared.kinds.OrderRefusal.the-variants.{UnknownItem}
 

@@ -4,7 +4,7 @@ use mathlib.Core.List.{List, [], _∷_}
 use mathlib.Core.Bool.{Bool}
 use Prim.Native.Nat.{ℕ, _<_}
 use lib.Dec.{eqb, eqb→eq}
-use lib.ListN.{getD, length}
+use lib.ListN.{getD}
 use Rattle.labels.proofs.Table.{at}
 use Rattle.labels.specs.Capacity.{capacity}
 

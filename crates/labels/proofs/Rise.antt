@@ -1,9 +1,9 @@
 -- A new item leaves the labels rising.
-use mathlib.Core.Path.{_≡_, refl, sym, ap, subst, _∙_}
-use mathlib.Core.Logic.{_⊎_, inl, inr}
-use mathlib.Core.Bool.{Bool, true, false, cond}
-use mathlib.Core.List.{List, [], _∷_, map}
-use Prim.Native.Nat.{ℕ, suc, _+_, _-_, _*_, _/_, _≤_, _<_, _^_}
+use mathlib.Core.Path.{_≡_, refl, sym, subst}
+use mathlib.Core.Logic.{inl, inr}
+use mathlib.Core.Bool.{true, false}
+use mathlib.Core.List.{[], _∷_}
+use Prim.Native.Nat.{ℕ, suc, _+_, _-_, _/_, _≤_, _<_, _^_}
 use native.Mathlib.Omega.{arith}
 use lib.Dec.{leb}
 use lib.ListN.{length}
@@ -11,7 +11,7 @@ use Rattle.std.proofs.shelf.Tests.{cases-lt, eq-eqb, ne-eqb, le-leb, lt-leb, fa
 use Rattle.order.specs.Items.{member}
 use Rattle.order.proofs.Members.{member-cases}
 use Rattle.labels.specs.Capacity.{capacity}
-use Rattle.labels.specs.Labels.{Entries, itemsOf, labelOf, headLabel, nextLabel, placed, baseOf, crowd, width, spread, relabelled, inserted, insertedBy}
+use Rattle.labels.specs.Labels.{Entries, itemsOf, labelOf, headLabel, nextLabel, placed, baseOf, crowd, width, relabelled, insertedBy}
 use Rattle.labels.specs.Laws.{Rising, Labels-rise}
 use Rattle.labels.proofs.Spreading.{loose-placed, count-placed, spread-rising}
 use Rattle.labels.proofs.Widening.{width-fits, capacity-le, base-le, below-base, base-top}

@@ -1,15 +1,14 @@
 -- Spread labels rise strictly and stay inside the range, so the whole list stays sorted.
-use mathlib.Core.Path.{_≡_, refl, sym, ap, subst, _∙_}
-use mathlib.Core.Logic.{_⊎_, inl, inr}
-use mathlib.Core.Bool.{Bool, true, false, cond, _&&_}
-use mathlib.Core.List.{List, [], _∷_, map}
+use mathlib.Core.Path.{_≡_, refl, ap, subst}
+use mathlib.Core.Logic.{inl, inr}
+use mathlib.Core.Bool.{Bool, true, false, cond}
+use mathlib.Core.List.{[], _∷_}
 use Prim.Native.Nat.{ℕ, suc, _+_, _*_, _/_, _≤_, _<_, _^_}
 use native.Mathlib.Nat.{suc-mul, div-mul-le-self, mul-lt-mul-of-pos-right, mul-comm}
 use native.Mathlib.Omega.{arith}
-use lib.Dec.{leb, ltb}
 use Rattle.std.proofs.shelf.Tests.{cases-eq, cases-lt, eq-eqb, ne-eqb, le-leb, lt-leb, lt-ltb, le-ltb, and-left, and-right, and-from, false≢true}
 use Rattle.std.proofs.shelf.Bits.{div-below, le-div}
-use Rattle.labels.specs.Labels.{Entry, Entries, inRange, countIn, spread, placed, labelOf, itemsOf}
+use Rattle.labels.specs.Labels.{Entries, inRange, countIn, spread, placed, labelOf, itemsOf}
 use Rattle.labels.specs.Laws.{Rising}
 use Rattle.labels.specs.Ranges.{nextLow, Loose}
 use Rattle.order.proofs.Members.{member-cases}

@@ -1,20 +1,20 @@
 -- Some range always has room, the first that is found is taken, and it lies among the labels.
 use mathlib.Core.Path.{_≡_, refl, sym, ap, subst, _∙_}
-use mathlib.Core.Logic.{_⊎_, inl, inr}
+use mathlib.Core.Logic.{inl, inr}
 use mathlib.Core.Bool.{Bool, true, false, cond}
-use mathlib.Core.List.{List, [], _∷_}
+use mathlib.Core.List.{[], _∷_}
 use Prim.Native.Nat.{ℕ, zero, suc, _+_, _-_, _*_, _/_, _%_, _≤_, _<_, _^_}
 use native.Mathlib.Nat.{div-mul-le-self, lt-div-mul-add, mul-le-mul-right, suc-mul, one-mul}
 use native.Mathlib.Omega.{arith}
-use lib.Dec.{T, leb, ltb, leb→le, lit≤}
-use lib.ListN.{length, getD}
+use lib.Dec.{leb, leb→le, lit≤}
+use lib.ListN.{length}
 use lib.Pow.{pow-pos, pow-add, shr-lt, shl-exact}
 use Rattle.std.proofs.shelf.Tests.{cases-bool, cases-eq, leb-true, leb-false, lt-leb, le-leb}
 use Rattle.labels.proofs.Capacities.{table}
 use Rattle.labels.proofs.Table.{at}
 use Rattle.labels.specs.Capacity.{capacity}
 use Rattle.labels.specs.Laws.{Always-room, Smallest-range}
-use Rattle.labels.specs.Labels.{Entry, Entries, inRange, countIn, baseOf, crowd, widen, width}
+use Rattle.labels.specs.Labels.{Entries, inRange, countIn, baseOf, crowd, widen, width}
 
 pub count-le : (base size : ℕ) (es : Entries) → countIn base size es ≤ length es
 count-le base size [] = omega arith

@@ -3,7 +3,6 @@
 --   Capacity-figures  four capacities
 --   Label-figures     labels of items that were put right behind item 0
 use mathlib.Core.Path.{_≡_}
-use Prim.Native.Nat.{ℕ}
 use Rattle.labels.specs.Capacity.{capacity}
 use Rattle.labels.specs.Labels.{labelOf, behindZero}
 

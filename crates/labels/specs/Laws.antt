@@ -6,7 +6,7 @@
 --   Labels-rise     a new item leaves the labels rising
 use mathlib.Core.Path.{_≡_}
 use mathlib.Core.Bool.{true}
-use mathlib.Core.List.{List, [], _∷_}
+use mathlib.Core.List.{[], _∷_}
 use Prim.Native.Nat.{ℕ, suc, _^_, _≤_, _<_}
 use lib.ListN.{length}
 use Rattle.order.specs.Items.{member}

@@ -4,7 +4,7 @@
 --   nextLow    the least label that may follow another
 --   Loose      the labels rise, but for ties inside the range
 use mathlib.Core.Bool.{cond}
-use mathlib.Core.List.{List, [], _∷_}
+use mathlib.Core.List.{[], _∷_}
 use Prim.Native.Nat.{ℕ, suc, _^_, _≤_}
 use lib.Dec.{leb}
 use Rattle.labels.specs.Labels.{Entries, inRange}

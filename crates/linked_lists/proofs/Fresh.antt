@@ -1,18 +1,16 @@
 -- A table whose row 0 is blank holds item 0 alone.
-use mathlib.Core.Path.{_≡_, refl, sym, ap, subst, _∙_}
-use mathlib.Core.Bool.{Bool, true, false, cond}
+use mathlib.Core.Path.{_≡_, refl, ap}
+use mathlib.Core.Bool.{true, false}
 use mathlib.Core.Logic.{inl, inr}
-use mathlib.Core.List.{List, [], _∷_}
-use Prim.Native.Nat.{ℕ, suc, _≤_, _<_}
+use mathlib.Core.List.{List}
+use Prim.Native.Nat.{ℕ, _≤_, _<_}
 use native.Mathlib.Omega.{arith}
-use lib.Dec.{eqb, ltb, lit≤}
+use lib.Dec.{lit≤}
 use lib.ListN.{length, getD, set}
 use Rattle.std.proofs.shelf.Tests.{eq-eqb, ne-eqb, false≢true, cases-eq}
 use Rattle.std.proofs.shelf.Lists.{getD-set-same, length-set}
-use Rattle.std.specs.declared.option.Option.the-variants.{Some, None}
-use Rattle.linked_lists.specs.Chain.{Sound, Chain, listed, blank, labelAt, nextAt, prevAt}
+use Rattle.linked_lists.specs.Chain.{Sound, blank}
 use Rattle.linked_lists.specs.declared.row.Row.{Row}
-use Rattle.order.specs.Items.{member}
 
 module _ (rows : List Row) (limit : ℕ) (lo : 0 < limit) (hi : limit ≤ 4096) (room : limit ≤ length rows) where
   start : getD (set rows 0 blank) 0 blank ≡ blank

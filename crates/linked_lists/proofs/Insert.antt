@@ -1,17 +1,16 @@
 -- One item more right behind another: what the links and the labels then say.
 use mathlib.Core.Path.{_≡_, refl, sym, ap, subst, _∙_}
-use mathlib.Core.Logic.{_⊎_, inl, inr}
-use mathlib.Core.Bool.{Bool, true, false, cond}
-use mathlib.Core.List.{List, [], _∷_, map}
-use Prim.Native.Nat.{ℕ, suc, _+_, _≤_, _<_, _^_}
+use mathlib.Core.Logic.{inl, inr}
+use mathlib.Core.Bool.{true, false}
+use mathlib.Core.List.{List, [], _∷_}
+use Prim.Native.Nat.{ℕ, suc, _≤_, _<_, _^_}
 use native.Mathlib.Omega.{arith}
-use lib.Dec.{eqb, ltb}
 use lib.ListN.{length}
-use Rattle.std.proofs.shelf.Tests.{cases-eq, cases-bool, eq-eqb, ne-eqb, false≢true}
+use Rattle.std.proofs.shelf.Tests.{cases-eq, eq-eqb, ne-eqb, false≢true}
 use Rattle.std.specs.declared.option.Option.{Option}
 use Rattle.std.specs.declared.option.Option.the-variants.{Some, None}
-use Rattle.linked_lists.proofs.Looks.{member-above, linked-first}
-use Rattle.linked_lists.specs.Chain.{Linked, Backed, Above, walk, Chain}
+use Rattle.linked_lists.proofs.Looks.{member-above}
+use Rattle.linked_lists.specs.Chain.{Linked, Backed, Above, walk}
 use Rattle.order.proofs.Members.{member-cases, member-here, member-there}
 use Rattle.order.specs.Items.{member, behind, front}
 

@@ -1,15 +1,14 @@
 -- What a chain says of its list.
-use mathlib.Core.Path.{_≡_, refl, sym, ap, subst, _∙_}
-use mathlib.Core.Logic.{_⊎_, inl, inr}
-use mathlib.Core.Bool.{Bool, true, false, cond}
+use mathlib.Core.Path.{_≡_, sym, ap, subst, _∙_}
+use mathlib.Core.Logic.{inl, inr}
+use mathlib.Core.Bool.{true, false}
 use mathlib.Core.List.{List, [], _∷_}
-use Prim.Native.Nat.{ℕ, suc, _≤_, _<_}
+use Prim.Native.Nat.{ℕ, suc, _≤_}
 use native.Mathlib.Omega.{arith}
-use lib.Dec.{eqb, ltb}
-use Rattle.std.proofs.shelf.Tests.{cases-eq, cases-bool, eq-eqb, ne-eqb, lt-ltb, le-ltb, false≢true, both-ways}
+use lib.Dec.{ltb}
+use Rattle.std.proofs.shelf.Tests.{cases-bool, eq-eqb, ne-eqb, lt-ltb, le-ltb, false≢true}
 use Rattle.std.specs.declared.option.Option.{Option}
-use Rattle.std.specs.declared.option.Option.the-variants.{Some, None}
-use Rattle.linked_lists.specs.Chain.{Linked, Backed, Above}
+use Rattle.linked_lists.specs.Chain.{Linked, Above}
 use Rattle.order.proofs.Members.{member-cases, earlier-member}
 use Rattle.order.specs.Items.{Distinct, member, earlier, following, front}
 

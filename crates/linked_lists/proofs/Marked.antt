@@ -1,15 +1,13 @@
 -- Items with their labels: what the list-level definitions read of the links and labels.
-use mathlib.Core.Path.{_≡_, refl, sym, ap, subst, _∙_}
-use mathlib.Core.Logic.{_⊎_, inl, inr}
-use mathlib.Core.Bool.{Bool, true, false, cond}
-use mathlib.Core.List.{List, [], _∷_, map}
-use Prim.Native.Nat.{ℕ, suc, _+_, _≤_, _<_, _^_}
-use lib.ListN.{length}
+use mathlib.Core.Path.{_≡_, refl, sym, ap, _∙_}
+use mathlib.Core.Logic.{inl, inr}
+use mathlib.Core.Bool.{true, false}
+use mathlib.Core.List.{List, [], _∷_}
+use Prim.Native.Nat.{ℕ, suc}
 use Rattle.std.proofs.shelf.Tests.{cases-eq, eq-eqb, ne-eqb, false≢true}
 use Rattle.std.specs.declared.option.Option.{Option}
-use Rattle.std.specs.declared.option.Option.the-variants.{Some, None}
 use Rattle.labels.specs.Laws.{Rising}
-use Rattle.labels.specs.Labels.{marked, itemsOf, Entry, Entries, labelOf, nextLabel, headLabel, placed}
+use Rattle.labels.specs.Labels.{marked, itemsOf, labelOf, nextLabel, headLabel, placed}
 use Rattle.linked_lists.proofs.Insert.{endOf}
 use Rattle.linked_lists.specs.Chain.{Linked, Above}
 use Rattle.order.proofs.Members.{member-cases, member-here, member-there}

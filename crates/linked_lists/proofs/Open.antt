@@ -1,10 +1,9 @@
 -- The invariant is a proposition, so a ghost field that holds it truncated gives it back.
-use mathlib.Core.Path.{_≡_, refl, sym, ap}
+use mathlib.Core.Path.{_≡_, refl}
 use mathlib.Core.List.{List, [], _∷_}
 use mathlib.Core.Logic.{∥∥₁-elim}
-use std.HLevel.{Π-prop}
 use native.Mathlib.Bridge.{le-prop}
-use base.Stored.{Coded, coded-set, codedℕ, codedBool, codedList, codedVia}
+use base.Stored.{coded-set, codedℕ, codedBool, codedList, codedVia}
 use Prim.Native.Nat.{ℕ, suc}
 use Rattle.std.specs.declared.option.Option.{Option}
 use Rattle.std.specs.declared.option.Option.the-variants.{Some, None}

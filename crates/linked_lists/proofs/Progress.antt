@@ -1,18 +1,18 @@
 -- The loop that spreads labels: what it has done, and what is left.
 use mathlib.Core.Path.{_≡_, refl, sym, ap, subst, _∙_}
 use mathlib.Core.Logic.{_⊎_, inl, inr}
-use mathlib.Core.Bool.{Bool, true, false, cond}
-use mathlib.Core.List.{List, [], _∷_, _++_, map, append-assoc}
-use Prim.Native.Nat.{ℕ, zero, suc, _+_, _*_, _/_, _≤_, _<_, _^_}
+use mathlib.Core.Bool.{true, false}
+use mathlib.Core.List.{List, [], _∷_, _++_, append-assoc}
+use Prim.Native.Nat.{ℕ, zero, suc, _+_, _*_, _/_, _≤_, _<_}
 use native.Mathlib.Omega.{arith}
 use lib.ListN.{length, getD, set}
-use Rattle.std.proofs.shelf.Tests.{cases-eq, cases-lt, cases-bool, eq-eqb, ne-eqb, le-leb, lt-leb, false≢true, both-ways}
+use Rattle.std.proofs.shelf.Tests.{cases-eq, cases-lt, cases-bool, le-leb, lt-leb, false≢true, both-ways}
 use Rattle.std.proofs.shelf.Lists.{getD-set-same, getD-set-other, length-set, map-append, getD-read}
 use Rattle.std.specs.declared.option.Option.{Option}
 use Rattle.std.specs.declared.option.Option.the-variants.{Some, None}
-use Rattle.labels.proofs.Spreading.{in-range, below-range, past-count, loose-weaker}
-use Rattle.labels.specs.Labels.{Entry, Entries, countIn, inRange, spread, marked}
-use Rattle.labels.specs.Ranges.{firstFrom, Loose, nextLow}
+use Rattle.labels.proofs.Spreading.{in-range, below-range, past-count}
+use Rattle.labels.specs.Labels.{Entries, countIn, inRange, spread, marked}
+use Rattle.labels.specs.Ranges.{firstFrom, Loose}
 use Rattle.linked_lists.proofs.Marked.{marked-same}
 use Rattle.linked_lists.proofs.Walks.{same-some}
 use Rattle.linked_lists.specs.Chain.{Linked, walk, listed, labelled, labelAt, nextAt, prevAt, blank}

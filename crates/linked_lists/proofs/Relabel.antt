@@ -1,29 +1,28 @@
 -- One item more, near or with new labels: the chain stands, and its entries are those of the definitions.
 use mathlib.Core.Path.{_≡_, refl, sym, ap, subst, _∙_}
-use mathlib.Core.Logic.{_⊎_, inl, inr}
-use mathlib.Core.Bool.{Bool, true, false, cond}
-use mathlib.Core.List.{List, [], _∷_, map}
-use Prim.Native.Nat.{ℕ, suc, _+_, _-_, _*_, _/_, _≤_, _<_, _^_}
+use mathlib.Core.Logic.{inl, inr}
+use mathlib.Core.Bool.{true, false}
+use mathlib.Core.List.{List, [], _∷_}
+use Prim.Native.Nat.{ℕ, suc, _+_, _-_, _/_, _≤_, _<_, _^_}
 use native.Mathlib.Omega.{arith}
 use lib.Dec.{leb}
 use lib.ListN.{length}
-use Rattle.std.proofs.shelf.Tests.{cases-eq, cases-bool, eq-eqb, ne-eqb, le-leb, lt-leb, false≢true, both-ways, cond-true, cond-false}
-use Rattle.std.specs.Options.{Cases}
+use Rattle.std.proofs.shelf.Tests.{cases-eq, eq-eqb, ne-eqb, le-leb, lt-leb, false≢true, both-ways, cond-true, cond-false}
 use Rattle.std.specs.declared.option.Option.{Option}
 use Rattle.std.specs.declared.option.Option.the-variants.{Some, None}
 use Rattle.labels.proofs.Spreading.{loose-placed, count-placed, spread-rising}
 use Rattle.labels.proofs.Widening.{width-fits, capacity-le, base-le, below-base, base-top}
 use Rattle.labels.specs.Capacity.{capacity}
-use Rattle.labels.specs.Labels.{Entry, Entries, countIn, inRange, spread, placed, labelOf, nextLabel, baseOf, crowd, width, relabelled, inserted, insertedBy, marked}
+use Rattle.labels.specs.Labels.{Entries, countIn, spread, placed, labelOf, nextLabel, baseOf, crowd, width, relabelled, inserted, insertedBy, marked}
 use Rattle.labels.specs.Laws.{Rising}
 use Rattle.labels.specs.Ranges.{firstFrom, Loose}
-use Rattle.linked_lists.proofs.Insert.{linked-same, backed-same, endOf, above-end, linked-next-member}
+use Rattle.linked_lists.proofs.Insert.{linked-same, backed-same, endOf}
 use Rattle.linked_lists.proofs.Linking.{links-behind, listed-linked, label-x, label-n, chained-linked, next-fits, length-linked}
-use Rattle.linked_lists.proofs.Looks.{above-distinct, gone, member-above}
+use Rattle.linked_lists.proofs.Looks.{above-distinct, gone}
 use Rattle.linked_lists.proofs.Marked.{unmark, label-marked, next-marked, marked-behind, above-rising, rising-above}
 use Rattle.linked_lists.proofs.Progress.{walk-same}
 use Rattle.linked_lists.proofs.Walks.{label-top, length-labelled}
-use Rattle.linked_lists.specs.Chain.{Linked, Above, Chain, Chained, walk, listed, labelled, labelAt, nextAt, prevAt, linkedRows}
+use Rattle.linked_lists.specs.Chain.{Linked, Above, Chain, Chained, listed, labelled, labelAt, nextAt, prevAt, linkedRows}
 use Rattle.linked_lists.specs.Ranges.{Spreadable, Around}
 use Rattle.linked_lists.specs.declared.range.Range.{Range}
 use Rattle.linked_lists.specs.declared.row.Row.{Row}

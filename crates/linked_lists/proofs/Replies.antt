@@ -1,26 +1,23 @@
 -- What the calls answer.
-use mathlib.Core.Path.{_≡_, refl, sym, ap, subst, _∙_}
+use mathlib.Core.Path.{_≡_, sym, ap, subst, _∙_}
 use mathlib.Core.Logic.{_⊎_, inl, inr}
-use mathlib.Core.Bool.{Bool, true, false, cond}
-use mathlib.Core.List.{List, [], _∷_}
-use Prim.Native.Nat.{ℕ, suc, _+_, _≤_, _<_}
+use mathlib.Core.Bool.{true, false}
+use mathlib.Core.List.{List}
+use Prim.Native.Nat.{ℕ, _+_, _≤_, _<_}
 use native.Mathlib.Omega.{arith}
-use lib.Dec.{eqb, ltb}
+use lib.Dec.{ltb}
 use lib.ListN.{length, getD}
-use Rattle.std.proofs.shelf.Tests.{lt-ltb, le-ltb, and-left, and-right, and-from, cond-true, cond-false}
+use Rattle.std.proofs.shelf.Tests.{lt-ltb, le-ltb, and-left, and-right, cond-true, cond-false}
 use Rattle.std.proofs.shelf.Lists.{getD-read}
-use Rattle.std.specs.declared.option.Option.{Option}
-use Rattle.std.specs.declared.option.Option.the-variants.{Some, None}
-use Rattle.std.specs.declared.result.Result.{Result}
+use Rattle.std.specs.declared.option.Option.the-variants.{Some}
 use Rattle.std.specs.declared.result.Result.the-variants.{Ok, Err}
 use Rattle.labels.specs.Labels.{labelAnswer}
 use Rattle.linked_lists.proofs.Looks.{above-earlier, linked-following}
 use Rattle.linked_lists.proofs.Marked.{label-marked}
 use Rattle.linked_lists.proofs.Walks.{length-labelled}
-use Rattle.linked_lists.specs.Chain.{Sound, Chain, Chained, listed, labelled, blank, labelAt, nextAt, prevAt}
+use Rattle.linked_lists.specs.Chain.{Sound, Chained, listed, labelled, blank, labelAt, nextAt}
 use Rattle.linked_lists.specs.declared.row.Row.{Row}
-use Rattle.order.specs.Items.{earlier, following, known, beforeAnswer, successorAnswer}
-use Rattle.refusals.specs.declared.kinds.OrderRefusal.{OrderRefusal}
+use Rattle.order.specs.Items.{known, beforeAnswer, successorAnswer}
 use Rattle.refusals.specs.declared.kinds.OrderRefusal.the-variants.{UnknownItem}
 
 module _ {rows : List Row} {n limit : ℕ} (s : Sound rows n limit) where

@@ -1,16 +1,15 @@
 -- Texts that are the decimal of a number.
-use mathlib.Core.Path.{_≡_, refl, sym, ap, subst, _∙_}
+use mathlib.Core.Path.{_≡_, sym, ap, _∙_}
 use mathlib.Core.Logic.{inl, inr}
-use mathlib.Core.Bool.{Bool, true, false, cond}
-use mathlib.Core.List.{List, [], _∷_, _++_}
-use Prim.Native.Nat.{ℕ, suc, _+_, _<_, _≤_, _^_}
+use mathlib.Core.Bool.{true}
+use mathlib.Core.List.{List}
+use Prim.Native.Nat.{ℕ, _<_, _^_}
 use native.Mathlib.Omega.{arith}
-use lib.Dec.{eqb, lit<}
+use lib.Dec.{lit<}
 use lib.ListN.{length, getD}
 use Rattle.std.proofs.shelf.Tests.{cases-eq, eq-eqb, ne-eqb, both-ways, cond-true, cond-false, eqb-true}
 use Rattle.std.proofs.shelf.Decimals.{decimal-reads, parses-back, decimal-digit, decimal-some, first-decimal, decimal-value}
 use Rattle.std.proofs.shelf.Numerals.{Numerals, numerals-by-value, tells-digits, parse-plain, converted-at-ok, digit-at}
-use Rattle.std.specs.Text.{In}
 use Rattle.std.specs.Reads.{Digits, value, ReadsUnsigned}
 use Rattle.std.specs.Written.{decimal}
 use Rattle.std.specs.declared.result.Result.{Result}

@@ -3,11 +3,9 @@
 --   lineAnswer  the answer, by the items, the limit and the labels
 --   itemsBy     the items after a line with that answer
 --   Keeps       a fact that holds unless the answer is a new item
-use mathlib.Core.Bool.{Bool}
 use mathlib.Core.List.{List}
 use Prim.Native.Nat.{ℕ}
 use lib.ListN.{length}
-use Rattle.std.specs.declared.option.Option.{Option}
 use Rattle.std.specs.declared.result.Result.{Result}
 use Rattle.std.specs.declared.result.Result.the-variants.{Ok, Err}
 use Rattle.refusals.specs.declared.kinds.OrderRefusal.{OrderRefusal}

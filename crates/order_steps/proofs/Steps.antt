@@ -1,19 +1,19 @@
 -- A new item right behind another stands between it and the one behind that.
 use mathlib.Core.Path.{_≡_, refl, sym, ap, subst, _∙_}
 use mathlib.Core.Logic.{inl, inr}
-use mathlib.Core.Bool.{Bool, true, false, cond}
+use mathlib.Core.Bool.{true, false}
 use mathlib.Core.List.{List, [], _∷_}
-use Prim.Native.Nat.{ℕ, suc, _≤_, _<_}
+use Prim.Native.Nat.{ℕ}
 use native.Mathlib.Omega.{arith}
 use lib.Dec.{ltb}
 use lib.ListN.{length}
-use Rattle.std.proofs.shelf.Tests.{cases-bool, cases-eq, eq-eqb, ne-eqb, ltb-true, le-ltb, false≢true, both-ways, cond-true, cond-false}
+use Rattle.std.proofs.shelf.Tests.{cases-bool, eq-eqb, ne-eqb, le-ltb, false≢true, both-ways, cond-true, cond-false}
 use Rattle.std.specs.declared.option.Option.{Option}
-use Rattle.std.specs.declared.option.Option.the-variants.{Some, None}
+use Rattle.std.specs.declared.option.Option.the-variants.{Some}
 use Rattle.std.specs.declared.result.Result.{Result}
 use Rattle.std.specs.declared.result.Result.the-variants.{Ok, Err}
 use Rattle.refusals.specs.declared.kinds.OrderRefusal.{OrderRefusal}
-use Rattle.order.specs.Items.{member, known, front, following, behind, earlier, afterAnswer, successorAnswer}
+use Rattle.order.specs.Items.{member, known, following, behind, earlier, afterAnswer, successorAnswer}
 use Rattle.order.proofs.Members.{member-cases, member-here, member-there, long-behind}
 use Rattle.order_steps.specs.Steps.{Between}
 

@@ -1,6 +1,6 @@
 // Puts an item right behind another, with the labels that the rules give.
 ghost use mathlib.Core.Path.{_≡_};
-ghost use Prim.Native.Nat.{_+_, _<_, _≤_};
+ghost use Prim.Native.Nat.{_+_, _<_};
 ghost use Rattle.std.specs.Of.Vec.{vec-items, vec-len};
 ghost use Rattle.labels.specs.Labels.{inserted, relabelled, width};
 ghost use Rattle.linked_lists.specs.Chain.{Chained, labelAt, labelled, listed};

@@ -1,5 +1,5 @@
 use mathlib.Core.Path.{sym, _∙_}
-use Rattle.std.proofs.shelf.Tests.{lt-ltb, le-ltb, cond-true, cond-false}
+use Rattle.std.proofs.shelf.Tests.{lt-ltb, cond-true}
 use Rattle.labels.proofs.Capacities.{rule}
 use Rattle.labels.proofs.room.Needs as need
 

@@ -1,4 +1,4 @@
-use mathlib.Core.Path.{_≡_, sym, ap, _∙_}
+use mathlib.Core.Path.{sym, ap, _∙_}
 use Rattle.std.proofs.shelf.Tests.{both-ways}
 use Rattle.order_lines.specs.Texts.{plain}
 use Rattle.order_lines.proofs.Decimals.{plain-decimal, read-decimal, decimal-read}

@@ -1,12 +1,10 @@
-use mathlib.Core.Path.{_≡_, refl, sym, ap, subst, _∙_}
 use mathlib.Core.Logic.{inl, inr}
-use Prim.Native.Nat.{ℕ, _+_, _*_, _/_, _<_, _≤_}
+use Prim.Native.Nat.{_≤_}
 use native.Mathlib.Omega.{arith}
 use lib.ListN.{length}
 use borrow.Author.Needs.{needs}
-use Rattle.std.specs.Of.Vec.{vec-items, vec-len}
 use Rattle.labels.proofs.Spreading.{spread-inside}
-use Rattle.linked_lists.proofs.Progress.{Progress, progress-start, progress-known, progress-code, progress-labels}
+use Rattle.linked_lists.proofs.Progress.{progress-start, progress-known, progress-code, progress-labels}
 use Rattle.relabelled.proofs.links.spread.Needs as need
 
 pub loop-j-holds : need.loop-j-holds

@@ -1,14 +1,9 @@
-use mathlib.Core.Path.{_≡_, refl, sym, ap, subst, _∙_}
-use mathlib.Core.List.{List}
-use Prim.Native.Nat.{ℕ, _+_, _<_, _≤_}
+use Prim.Native.Nat.{_<_}
 use native.Mathlib.Omega.{arith}
-use lib.ListN.{length}
-use Rattle.std.specs.Of.Vec.{vec-items, vec-len}
-use Rattle.linked_lists.proofs.Linking.{next-fits, length-linked}
+use Rattle.std.specs.Of.Vec.{vec-len}
+use Rattle.linked_lists.proofs.Linking.{next-fits}
 use Rattle.linked_lists.proofs.Relabel.{code-below, near, far-labels}
 use Rattle.linked_lists.proofs.Rows.{label-of}
-use Rattle.linked_lists.specs.Chain.{Chained, labelAt, labelled, listed, linkedRows}
-use Rattle.linked_lists.specs.declared.row.Row.{Row}
 use Rattle.relabelled.proofs.place.place.Needs as need
 
 pub sub-gap : need.sub-gap

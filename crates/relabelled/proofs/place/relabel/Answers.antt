@@ -1,15 +1,9 @@
-use mathlib.Core.Path.{_≡_, refl, sym, ap, subst, _∙_}
-use mathlib.Core.List.{List}
-use Prim.Native.Nat.{ℕ, _+_, _<_, _≤_}
+use Prim.Native.Nat.{_<_, _≤_}
 use native.Mathlib.Omega.{arith}
-use lib.ListN.{length}
 use Rattle.std.specs.Of.Vec.{vec-items, vec-len}
-use Rattle.linked_lists.proofs.Linking.{next-fits, length-linked}
+use Rattle.linked_lists.proofs.Linking.{next-fits}
 use Rattle.linked_lists.proofs.Relabel.{code-spreadable, code-long, code-spread}
 use Rattle.linked_lists.proofs.Rows.{label-of}
-use Rattle.linked_lists.specs.Chain.{labelAt, labelled, listed, linkedRows}
-use Rattle.linked_lists.specs.Ranges.{Spreadable}
-use Rattle.linked_lists.specs.declared.row.Row.{Row}
 use Rattle.relabelled.proofs.place.relabel.Needs as need
 
 pub link-requires : need.link-requires

@@ -5,8 +5,8 @@ use native.Mathlib.Omega.{arith}
 use lib.ListN.{length, getD}
 use Rattle.std.specs.Options.{Cases}
 use Rattle.std.specs.declared.option.Option.{Option}
-use Rattle.std.specs.declared.option.Option.the-variants.{Some, None}
-use Rattle.std.specs.Of.Vec.{vec-items, vec-len}
+use Rattle.std.specs.declared.option.Option.the-variants.{Some}
+use Rattle.std.specs.Of.Vec.{vec-len}
 use Rattle.labels.specs.Labels.{nextLabel}
 use Rattle.linked_lists.proofs.Insert.{endOf}
 use Rattle.linked_lists.proofs.Linking.{next-fits}

@@ -1,14 +1,10 @@
-use mathlib.Core.Path.{_≡_, sym, ap, subst, _∙_}
-use Prim.Native.Nat.{ℕ, _+_, _*_, _/_, _<_, _≤_, _^_}
+use Prim.Native.Nat.{_<_}
 use native.Mathlib.Omega.{arith}
 use borrow.Author.Needs.{needs}
-use lib.ListN.{length}
-use Rattle.std.proofs.shelf.Lists.{length-map}
-use Rattle.std.specs.Of.Vec.{vec-items, vec-len}
+use Rattle.std.specs.Of.Vec.{vec-len}
 use Rattle.labels.proofs.Widening.{shifted-top}
 use Rattle.linked_lists.proofs.Rows.{label-of}
 use Rattle.linked_lists.proofs.Walks.{label-top, count-few}
-use Rattle.linked_lists.specs.Chain.{labelAt, labelled, listed}
 use Rattle.relabelled.proofs.ranges.range_at.Needs as need
 
 pub count-in-crowd-requires : need.count-in-crowd-requires

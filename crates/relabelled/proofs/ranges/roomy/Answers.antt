@@ -1,8 +1,8 @@
-use mathlib.Core.Path.{_≡_, sym, ap, subst, _∙_}
-use Prim.Native.Nat.{ℕ, _+_, _<_, _≤_}
+use mathlib.Core.Path.{sym, subst, _∙_}
+use Prim.Native.Nat.{ℕ}
 use native.Mathlib.Omega.{arith}
 use Rattle.std.proofs.shelf.Tests.{lt-ltb, cond-true}
-use Rattle.std.specs.Of.Vec.{vec-items, vec-len}
+use Rattle.std.specs.Of.Vec.{vec-items}
 use Rattle.labels.proofs.Widening.{width-start, widen-more, widen-stop, widen-last}
 use Rattle.linked_lists.specs.Chain.{labelAt, labelled}
 use Rattle.linked_lists.specs.Ranges.{Around}

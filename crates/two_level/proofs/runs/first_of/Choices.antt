@@ -1,5 +1,5 @@
 use mathlib.Core.Path.{_≡_}
-use Prim.Native.Nat.{_<_, _≤_}
+use Prim.Native.Nat.{_<_}
 use Rattle.std.specs.Of.Vec.{vec-items}
 use Rattle.grouping.specs.Groups.{groupAt, prevAt, backTo, firstOf}
 use Rattle.two_level.proofs.runs.first_of.Given as given

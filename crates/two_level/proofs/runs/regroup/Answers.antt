@@ -1,9 +1,6 @@
-use mathlib.Core.Path.{_≡_, refl, sym, ap, subst, _∙_}
-use Prim.Native.Nat.{ℕ, _+_, _-_, _<_, _≤_}
+use Prim.Native.Nat.{_-_}
 use native.Mathlib.Omega.{arith}
-use lib.ListN.{length}
-use Rattle.std.specs.Of.Vec.{vec-items, vec-len}
-use Rattle.grouping.proofs.Loops.{Numbering, numbering-spent, numbering-none, numbering-in, numbering-more}
+use Rattle.grouping.proofs.Loops.{numbering-none, numbering-in, numbering-more}
 use Rattle.two_level.proofs.runs.regroup.Needs as need
 
 pub index-row-requires : need.index-row-requires

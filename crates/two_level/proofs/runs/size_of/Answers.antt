@@ -1,12 +1,11 @@
 use mathlib.Core.Path.{_≡_, sym, ap, subst, _∙_}
-use mathlib.Core.List.{List, []}
-use Prim.Native.Nat.{ℕ, _+_, _-_, _<_, _≤_}
+use Prim.Native.Nat.{ℕ, _+_, _-_, _<_}
 use native.Mathlib.Omega.{arith}
 use lib.ListN.{length}
 use Rattle.std.specs.Of.Vec.{vec-items, vec-len}
 use Rattle.std.specs.declared.option.Option.{Option}
-use Rattle.std.specs.declared.option.Option.the-variants.{Some, None}
-use Rattle.grouping.proofs.Loops.{Fits, group-of, next-of, fits-at, run-more, run-out, run-none, run-spent}
+use Rattle.std.specs.declared.option.Option.the-variants.{Some}
+use Rattle.grouping.proofs.Loops.{Fits, group-of, next-of, fits-at, run-more, run-out, run-none}
 use Rattle.grouping.specs.Groups.{groupAt, nextAt, runOf}
 use Rattle.two_level.proofs.runs.size_of.Needs as need
 

@@ -1,6 +1,5 @@
 use native.Mathlib.Omega.{arith}
 use mathlib.Core.Logic.{inl, inr}
-use borrow.Author.Needs.{needs}
 use Rattle.linked_lists.proofs.Open.{opened}
 use Rattle.linked_lists.proofs.Replies.{before-ok, before-unknown}
 use Rattle.relabelled.proofs.calls.RelabelledOrder.before.Needs as need

@@ -1,8 +1,7 @@
 use mathlib.Core.Path.{_≡_, refl}
-use Prim.Native.Nat.{_<_, _≤_}
 use native.Mathlib.Omega.{arith}
 use lib.ListN.{length}
-use Rattle.std.specs.Of.Vec.{vec-items, vec-len}
+use Rattle.std.specs.Of.Vec.{vec-items}
 use Rattle.linked_lists.proofs.Decisions.{granted, refused}
 use Rattle.linked_lists.proofs.Open.{opened}
 use Rattle.linked_lists.proofs.Replies.{after-sound}

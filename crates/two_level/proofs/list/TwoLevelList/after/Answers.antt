@@ -1,15 +1,13 @@
-use mathlib.Core.Path.{_≡_, refl, sym, ap, subst, _∙_}
-use Prim.Native.Nat.{ℕ, _+_, _<_, _≤_}
+use mathlib.Core.Path.{refl, sym, subst, _∙_}
+use Prim.Native.Nat.{ℕ, _<_}
 use native.Mathlib.Omega.{arith}
 use borrow.Author.Needs.{needs}
-use lib.ListN.{length}
 use Rattle.std.specs.Of.Vec.{vec-items, vec-len}
 use Rattle.grouping.proofs.Adding.{next-in, prev-in, first-at, first-known}
 use Rattle.grouping.proofs.Done.{never, size-few, ask-within, ask-distinct, final}
 use Rattle.grouping.proofs.Loops.{group-of}
 use Rattle.grouping.proofs.Open.{opened}
 use Rattle.linked_lists.proofs.Decisions.{granted, refused}
-use Rattle.grouping.specs.Groups.{groupAt}
 use Rattle.relabelled.proofs.Held.{items-distinct, items-within, items-few, entries-long}
 use Rattle.relabelled.specs.Meaning.{relabelledItems, relabelledEntries}
 use Rattle.two_level.proofs.list.TwoLevelList.after.Needs as need
