@@ -10,7 +10,7 @@ use lib.ListN.{length, getD, set}
 use Rattle.std.proofs.shelf.Tests.{eq-eqb, ne-eqb, false≢true, cases-eq}
 use Rattle.std.proofs.shelf.Lists.{getD-set-same, length-set}
 use Rattle.grouping.specs.Blocks.{flat, Grouped}
-use Rattle.grouping.specs.Groups.{Sound, blocked, blank, groupAt, rankAt, key}
+use Rattle.grouping.specs.Groups.{listed, Sound, blocked, blank, groupAt, rankAt, key}
 use Rattle.grouping.specs.declared.item.Item.{Item}
 use Rattle.order.specs.Items.{position}
 
@@ -55,3 +55,9 @@ module _ (rows : List Item) (limit : ℕ) (lo : 0 < limit) (hi : limit ≤ 4096)
 
   pub fresh-blocks : (groups : List ℕ) → groups ≡ 0 ∷ [] → blocked (set rows 0 blank) groups 1 ≡ (0 ∷ []) ∷ []
   fresh-blocks groups e = ap (λ (gs : List ℕ). blocked (set rows 0 blank) gs 1) e ∙ one
+
+  -- the groups hold the items, and ranks rise along each
+  pub fresh-kept : (groups : List ℕ) → groups ≡ 0 ∷ [] →
+      (flat (blocked (set rows 0 blank) groups 1) ≡ listed (set rows 0 blank) 1)
+      × Grouped (groupAt (set rows 0 blank)) (rankAt (set rows 0 blank)) groups (blocked (set rows 0 blank) groups 1)
+  fresh-kept groups e = let s = fresh-sound groups e in (s .whole, s .blocks)

@@ -1,16 +1,14 @@
 // The calls of a two-level list.
 ghost use mathlib.Core.Path.{_≡_};
 ghost use mathlib.Core.Bool.{_||_};
-ghost use mathlib.Core.List.{[], _∷_};
 ghost use lib.Dec.{ltb};
 ghost use Rattle.std.specs.Of.Vec.{vec-len};
 ghost use Rattle.std.specs.Results.{Cases};
 ghost use Rattle.std.specs.declared.option.Option.the-variants.{Some, None};
 ghost use Rattle.order.specs.Items.{afterAnswer, itemsAfter};
-ghost use Rattle.labels.specs.Labels.{fresh};
 ghost use Rattle.linked_lists.specs.Decisions.{makerRefusal};
 ghost use Rattle.grouping.specs.Blocks.{blocksAfter, groupEntriesAfter};
-ghost use Rattle.two_level.specs.Meaning.{twoLevelItems, twoLevelBlocks, groupEntries, groupOf, Kept, groupLabelAnswer};
+ghost use Rattle.two_level.specs.Meaning.{twoLevelItems, twoLevelBlocks, groupEntries, groupOf, Kept, Started, groupLabelAnswer};
 use crate::divide::group_behind;
 use crate::list::TwoLevelList;
 use crate::runs::first_of;
@@ -35,7 +33,7 @@ impl TwoLevelList {
         rows: Vec<Item>,
         groups: Vec<Row>,
     ) -> Result<Self, (MakerRefusal, Vec<Item>, Vec<Row>)>
-        ensures { λ r. ⌜ Cases r (λ o. (makerRefusal limit (ltb (vec-len rows) limit || ltb (vec-len groups) limit) ≡ None) × (twoLevelItems o ≡ 0 ∷ []) × (twoLevelBlocks o ≡ (0 ∷ []) ∷ []) × (groupEntries o ≡ fresh) × (o .limit ≡ limit)) (λ e. (makerRefusal limit (ltb (vec-len rows) limit || ltb (vec-len groups) limit) ≡ Some (e .0)) × (e .1 ≡ rows) × (e .2 ≡ groups)) ⌝ }
+        ensures { λ r. ⌜ Cases r (λ o. (makerRefusal limit (ltb (vec-len rows) limit || ltb (vec-len groups) limit) ≡ None) × Started o limit) (λ e. (makerRefusal limit (ltb (vec-len rows) limit || ltb (vec-len groups) limit) ≡ Some (e .0)) × (e .1 ≡ rows) × (e .2 ≡ groups)) ⌝ }
     {
         if limit < 1 || limit > 4096 {
             return Err((MakerRefusal::LimitOutOfRange, rows, groups));

@@ -4,7 +4,7 @@ use native.Mathlib.Omega.{arith}
 use mathlib.Core.Path.{refl}
 use borrow.Author.Needs.{needs}
 use Rattle.linked_lists.proofs.Open as lists
-use Rattle.grouping.proofs.Fresh.{fresh-sound, fresh-blocks}
+use Rattle.grouping.proofs.Fresh.{fresh-sound, fresh-blocks, fresh-kept}
 use Rattle.relabelled.proofs.Held.{items-fresh}
 use Rattle.two_level.proofs.list.TwoLevelList.make.Needs as need
 
@@ -29,4 +29,5 @@ returns-in-Ok c =
     let d = g .small in
     let e = h .2 in
     let k = fresh-blocks (c .args .rows .items) (c .args .limit) (omega arith) (omega arith) room _ e _ (items-fresh (c .in-Ok .groups) (h .1)) in
-    (search needs, refl, k, h .1, refl)
+    let s = fresh-kept (c .args .rows .items) (c .args .limit) (omega arith) (omega arith) room _ e _ (items-fresh (c .in-Ok .groups) (h .1)) in
+    (search needs, (refl, k, h .1, refl, s))
