@@ -1,0 +1,5 @@
+pub mod Capacity
+pub mod Labels
+pub mod Ranges
+pub mod Laws
+pub mod Figures

@@ -1,0 +1,13 @@
+pub mod Decisions
+pub mod Rows
+pub mod Looks
+pub mod Insert
+pub mod Marked
+pub mod Walks
+pub mod Progress
+pub mod Linking
+pub mod Relabel
+pub mod Numbered
+pub mod Open
+pub mod Fresh
+pub mod Replies
