@@ -1,2 +1,0 @@
-mod Decimals
-mod Parsing

@@ -1,65 +1,48 @@
--- The text of lines and answers, as bytes.
+-- Lines and answers as text.
 --
---   wordText    the first word of a line that names items
---   lineText    a line: words and decimal numbers, with one space between
---   Narrow      the numbers of a line have 32 bits
---   Asks        a line is its word, one space, and a text
---   plain       a text begins as a decimal does
---   answerText  an answer
-use mathlib.Core.Path.{_≡_}
-use mathlib.Core.Bool.{Bool, true, false, cond}
+--   oneItem      the one number that words write
+--   twoItems     the two numbers that words write
+--   asked        the line that begins with a word
+--   lineOf       the line that words write, or nothing
+--   answerText   an answer
+use mathlib.Core.Bool.{Bool, true, false, cond, _&&_}
 use mathlib.Core.List.{List, [], _∷_, _++_}
-use Prim.Native.Nat.{ℕ, _<_, _^_}
-use lib.Dec.{eqb}
-use lib.ListN.{length, getD}
+use Prim.Native.Nat.{ℕ}
+use lib.Chars.{codes}
 use Rattle.std.specs.Written.{decimal}
+use Rattle.std.specs.shelf.Text.{sameBytes}
+use Rattle.std.specs.declared.option.Option.{Option}
 use Rattle.std.specs.declared.option.Option.the-variants.{Some, None}
 use Rattle.refusals.specs.Numbers.{orderNumber}
-use Rattle.order_lines.specs.declared.line.Word.{Word}
-use Rattle.order_lines.specs.declared.line.Word.the-variants as word
+use Rattle.text.specs.Numbers.{numberOf}
+use Rattle.text.specs.Left.{firstOf, behindFirst, readFirst, isNone, ifThere}
 use Rattle.order_lines.specs.declared.line.OrderLine.{OrderLine}
 use Rattle.order_lines.specs.declared.line.OrderLine.the-variants.{After, Before, Successor, Count, Label}
 use Rattle.order_lines.specs.declared.line.OrderAnswer.{OrderAnswer}
 use Rattle.order_lines.specs.declared.line.OrderAnswer.the-variants.{NewItem, IsBefore, Next, Total, LabelIs, Refused}
 
--- after, before, successor, label
-abbrev pub wordText : Word → List ℕ
-wordText word.After = 97 ∷ 102 ∷ 116 ∷ 101 ∷ 114 ∷ []
-wordText word.Before = 98 ∷ 101 ∷ 102 ∷ 111 ∷ 114 ∷ 101 ∷ []
-wordText word.Successor = 115 ∷ 117 ∷ 99 ∷ 99 ∷ 101 ∷ 115 ∷ 115 ∷ 111 ∷ 114 ∷ []
-wordText word.Label = 108 ∷ 97 ∷ 98 ∷ 101 ∷ 108 ∷ []
+-- one 32-bit number, and no words behind it
+abbrev pub oneItem : List (List ℕ) → Option ℕ
+oneItem ws = ifThere (readFirst (numberOf 32) ws) (λ a. cond (isNone (behindFirst ws)) (Some a) None)
 
--- count
-abbrev pub countText : List ℕ
-countText = 99 ∷ 111 ∷ 117 ∷ 110 ∷ 116 ∷ []
+-- two 32-bit numbers, and no words behind them
+abbrev pub twoItems : List (List ℕ) → Option (ℕ × ℕ)
+twoItems ws =
+    ifThere (readFirst (numberOf 32) ws) (λ a.
+    ifThere (readFirst (numberOf 32) (behindFirst ws)) (λ b. cond (isNone (behindFirst (behindFirst ws))) (Some (a, b)) None))
 
--- a line: its word and its numbers, one space between, nothing before or behind
-abbrev pub lineText : OrderLine → List ℕ
-lineText (After a) = wordText word.After ++ (32 ∷ decimal a)
-lineText (Before a b) = wordText word.Before ++ (32 ∷ (decimal a ++ (32 ∷ decimal b)))
-lineText (Successor a) = wordText word.Successor ++ (32 ∷ decimal a)
-lineText Count = countText
-lineText (Label a) = wordText word.Label ++ (32 ∷ decimal a)
+-- the line of the word w and the words behind it
+abbrev pub asked : List ℕ → List (List ℕ) → Option OrderLine
+asked w ws =
+    cond (sameBytes w (codes "after")) (ifThere (oneItem ws) (λ a. Some (After a)))
+    (cond (sameBytes w (codes "before")) (ifThere (twoItems ws) (λ p. Some (Before (p .0) (p .1))))
+    (cond (sameBytes w (codes "successor")) (ifThere (oneItem ws) (λ a. Some (Successor a)))
+    (cond (sameBytes w (codes "label")) (ifThere (oneItem ws) (λ a. Some (Label a)))
+    (cond (sameBytes w (codes "count") && isNone ws) (Some Count) None))))
 
--- the numbers of a line have 32 bits
-abbrev pub Narrow : OrderLine → Type 0
-Narrow (After a) = a < 2 ^ 32
-Narrow (Before a b) = (a < 2 ^ 32) × (b < 2 ^ 32)
-Narrow (Successor a) = a < 2 ^ 32
-Narrow Count = Unit {0}
-Narrow (Label a) = a < 2 ^ 32
-
--- the line l is the word w, one space, and the text ds
-abbrev pub Asks : Word → List ℕ → OrderLine → Type 0
-Asks w ds (After a) = (w ≡ word.After) × (ds ≡ decimal a)
-Asks w ds (Before a b) = (w ≡ word.Before) × (ds ≡ decimal a ++ (32 ∷ decimal b))
-Asks w ds (Successor a) = (w ≡ word.Successor) × (ds ≡ decimal a)
-Asks w ds Count = ⊥
-Asks w ds (Label a) = (w ≡ word.Label) × (ds ≡ decimal a)
-
--- bs is not empty, begins with no plus, and with a zero only where that is all
-abbrev pub plain : List ℕ → Bool
-plain bs = cond (eqb (length bs) 0) false (cond (eqb (getD bs 0 0) 43) false (cond (eqb (getD bs 0 0) 48) (eqb (length bs) 1) true))
+-- a word, and the items that it needs
+abbrev pub lineOf : List (List ℕ) → Option OrderLine
+lineOf ws = ifThere (firstOf ws) (λ w. asked w (behindFirst ws))
 
 -- an answer: a number, yes or no, nothing where there is no next item, or refused and the number of the refusal
 abbrev pub answerText : OrderAnswer → List ℕ

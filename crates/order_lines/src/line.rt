@@ -11,15 +11,6 @@ pub enum OrderLine {
     Label(u32),
 }
 
-// The first word of a line that names items.
-#[derive(Clone, Copy)]
-pub enum Word {
-    After,
-    Before,
-    Successor,
-    Label,
-}
-
 // What an order answers to a line.
 #[derive(Clone, Copy)]
 pub enum OrderAnswer {

@@ -1,81 +1,58 @@
 // Reads a line of text.
 ghost use mathlib.Core.Path.{_≡_};
-ghost use mathlib.Core.List.{_∷_, _++_};
-ghost use Prim.Native.Nat.{ℕ, _<_, _^_};
-ghost use Rattle.std.specs.Written.{decimal};
-ghost use Rattle.std.specs.Options.{Cases};
-ghost use Rattle.order_lines.specs.declared.line.OrderLine.{OrderLine};
-ghost use Rattle.order_lines.specs.declared.line.Word.{Word};
-ghost use Rattle.order_lines.specs.Texts.{wordText, lineText, Narrow, Asks};
+ghost use Rattle.text.specs.Parts.{words};
+ghost use Rattle.text.specs.Left.{left};
+ghost use Rattle.order_lines.specs.Texts.{oneItem, twoItems, asked, lineOf};
 use crate::line::OrderLine;
-use crate::line::Word;
-use crate::number::number32;
+use text::cutting::same;
+use text::split::Parts;
 
-// The word that the text is.
-fn word_of(text: &str) -> Option<Word>
-    ensures { λ r. ⌜ Cases r ((w : Word) → now (text .entry) ≡ wordText w → ⊥) (λ w. now (text .entry) ≡ wordText w) ⌝ }
+// The one number that is left.
+fn one_item(mut words: Parts) -> Option<u32>
+    ensures { λ r. ⌜ r ≡ oneItem (left (words .entry)) ⌝ }
 {
-    match text {
-        "after" => Some(Word::After),
-        "before" => Some(Word::Before),
-        "successor" => Some(Word::Successor),
-        "label" => Some(Word::Label),
-        _ => None,
-    }
+    let a = words.u32()?;
+    if words.is_done() { Some(a) } else { None }
 }
 
-// The two numbers of 32 bits whose decimals, with one space between, the text is.
-fn pair_of(text: &str) -> Option<(u32, u32)>
-    ensures { λ r. ⌜ Cases r ((a b : ℕ) → a < 2 ^ 32 → b < 2 ^ 32 → now (text .entry) ≡ decimal a ++ (32 ∷ decimal b) → ⊥) (λ p. now (text .entry) ≡ decimal (p .0) ++ (32 ∷ decimal (p .1))) ⌝ }
+// The two numbers that are left.
+fn two_items(mut words: Parts) -> Option<(u32, u32)>
+    ensures { λ r. ⌜ r ≡ twoItems (left (words .entry)) ⌝ }
 {
-    match text.split_once(' ') {
-        Some((first, second)) => match number32(first) {
-            Some(a) => match number32(second) {
-                Some(b) => Some((a, b)),
-                None => None,
-            },
-            None => None,
-        },
-        None => None,
-    }
+    let a = words.u32()?;
+    let b = words.u32()?;
+    if words.is_done() { Some((a, b)) } else { None }
 }
 
-// The line that begins with the word and goes on with the text.
-fn asked(word: Word, text: &str) -> Option<OrderLine>
-    ensures { λ r. ⌜ Cases r ((l : OrderLine) → Narrow l → Asks word (now (text .entry)) l → ⊥) (λ l. Asks word (now (text .entry)) l) ⌝ }
+// The line that begins with the word and goes on with the words that are left.
+fn asked_by(word: &[u8], words: Parts) -> Option<OrderLine>
+    ensures { λ r. ⌜ r ≡ asked (now (word .entry)) (left (words .entry)) ⌝ }
 {
-    match word {
-        Word::After => match number32(text) {
-            Some(a) => Some(OrderLine::After(a)),
-            None => None,
-        },
-        Word::Before => match pair_of(text) {
-            Some((a, b)) => Some(OrderLine::Before(a, b)),
-            None => None,
-        },
-        Word::Successor => match number32(text) {
-            Some(a) => Some(OrderLine::Successor(a)),
-            None => None,
-        },
-        Word::Label => match number32(text) {
-            Some(a) => Some(OrderLine::Label(a)),
-            None => None,
-        },
+    if same(word, b"after") {
+        return Some(OrderLine::After(one_item(words)?));
+    }
+    if same(word, b"before") {
+        let (a, b) = two_items(words)?;
+        return Some(OrderLine::Before(a, b));
+    }
+    if same(word, b"successor") {
+        return Some(OrderLine::Successor(one_item(words)?));
+    }
+    if same(word, b"label") {
+        return Some(OrderLine::Label(one_item(words)?));
+    }
+    if same(word, b"count") && words.is_done() {
+        Some(OrderLine::Count)
+    } else {
+        None
     }
 }
 
 // The line that a text is; nothing where it is none.
-pub fn parse_line(text: &str) -> Option<OrderLine>
-    ensures { λ r. ⌜ Cases r ((l : OrderLine) → Narrow l → now (text .entry) ≡ lineText l → ⊥) (λ l. now (text .entry) ≡ lineText l) ⌝ }
+pub fn parse_line(line: &[u8]) -> Option<OrderLine>
+    ensures { λ r. ⌜ r ≡ lineOf (words (now (line .entry))) ⌝ }
 {
-    match text.split_once(' ') {
-        Some((first, rest)) => match word_of(first) {
-            Some(word) => asked(word, rest),
-            None => None,
-        },
-        None => match text {
-            "count" => Some(OrderLine::Count),
-            _ => None,
-        },
-    }
+    let mut words = Parts::words(line);
+    let word = words.part()?;
+    asked_by(word, words)
 }

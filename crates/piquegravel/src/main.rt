@@ -3,13 +3,18 @@ use std::error::AnyError;
 
 mod comparing;
 mod keying;
+mod ordering;
+mod orders;
 mod output;
+mod timing;
 mod usage;
 
 use comparing::run_compare;
 use keying::run_keys;
+use ordering::run_order;
 use std::fs;
 use std::io::Read;
+use timing::run_time_order;
 use usage::Command;
 use usage::read_commands;
 
@@ -29,6 +34,13 @@ fn run(rt: &LibcRuntime) -> Result<(), AnyError> {
         match command {
             Command::Compare { file } => run_compare(rt, input(rt, file.as_str())?.as_slice())?,
             Command::Keys { file } => run_keys(rt, input(rt, file.as_str())?.as_slice())?,
+            Command::Order { kind, limit, file } => run_order(
+                rt,
+                *kind,
+                *limit,
+                input(rt, file.as_str())?.as_slice(),
+            )?,
+            Command::TimeOrder { kind, items } => run_time_order(rt, *kind, *items)?,
         }
     }
     Ok(())

@@ -2,24 +2,79 @@
 ghost use Prim.Native.Nat.{_<_};
 ghost use Rattle.std.specs.Options.{Cases};
 ghost use Rattle.std.specs.Vec.{made};
+use crate::orders::OrderKind;
+use crate::orders::order_kind;
 use std::alloc::AllocError;
 use std::env;
 use std::error::AnyError;
+use text::numbers::read_u64;
 
 // What is to be run, in the order of the words.
 #[derive(Drop)]
 pub enum Command {
-    Compare { file: String },
-    Keys { file: String },
+    Compare {
+        file: String,
+    },
+    Keys {
+        file: String,
+    },
+    Order {
+        kind: OrderKind,
+        limit: u32,
+        file: String,
+    },
+    TimeOrder {
+        kind: OrderKind,
+        items: u32,
+    },
 }
 
 const USAGE: &str = "usage: piquegravel COMMAND..
   compare FILE   which files changed between two builds: lines 'was FILE LENGTH PRINT..' and 'now FILE LENGTH PRINT..'
   keys FILE      which of two keys goes first: lines 'piece F P F P', 'name \"A\" \"B\"' and 'job U N U N'
+  order relabelled|two-level V FILE
+                 calls of a version order of at most V items: lines 'after A', 'before A B', 'successor A', 'count' and 'label A'
+  time-order relabelled|two-level ITEMS
+                 how long the calls of a version order take
 FILE is a path, or - for standard input. Several commands may follow one another.";
 
-// The command that begins at a word, and the place behind its last word; nothing where it is not understood.
-fn read_command(words: &Vec<String>, at: usize) -> Result<Option<(Command, usize)>, AllocError>
+// A limit in decimal; what is too wide for 32 bits is as far outside every range as the widest such number.
+fn read_limit(word: &str) -> Option<u32> {
+    let n = read_u64(word.as_bytes())?;
+    Some(n.min(0xffff_ffff) as u32)
+}
+
+// The words of `order` behind the first.
+fn read_order(words: &Vec<String>, at: usize) -> Result<Option<(Command, usize)>, AllocError>
+    ensures { λ r. ⌜ made r (λ o. Cases o (Unit {0}) (λ p. at < p .1)) ⌝ }
+{
+    if at >= words.len() || words.len() - at < 4 {
+        return Ok(None);
+    }
+    let Some(kind) = order_kind(words[at + 1].as_str()) else {
+        return Ok(None);
+    };
+    let Some(limit) = read_limit(words[at + 2].as_str()) else {
+        return Ok(None);
+    };
+    let file = words[at + 3].clone()?;
+    Ok(Some((Command::Order { kind, limit, file }, at + 4)))
+}
+
+// The words of `time-order` behind the first.
+fn read_time_order(words: &Vec<String>, at: usize) -> Option<(Command, usize)>
+    ensures { λ r. ⌜ Cases r (Unit {0}) (λ p. at < p .1) ⌝ }
+{
+    if at >= words.len() || words.len() - at < 3 {
+        return None;
+    }
+    let kind = order_kind(words[at + 1].as_str())?;
+    let items = read_limit(words[at + 2].as_str())?;
+    Some((Command::TimeOrder { kind, items }, at + 3))
+}
+
+// A command of one file.
+fn read_file(words: &Vec<String>, at: usize) -> Result<Option<(Command, usize)>, AllocError>
     ensures { λ r. ⌜ made r (λ o. Cases o (Unit {0}) (λ p. at < p .1)) ⌝ }
 {
     if at >= words.len() || words.len() - at < 2 {
@@ -30,6 +85,20 @@ fn read_command(words: &Vec<String>, at: usize) -> Result<Option<(Command, usize
         "compare" => Ok(Some((Command::Compare { file }, at + 2))),
         "keys" => Ok(Some((Command::Keys { file }, at + 2))),
         _ => Ok(None),
+    }
+}
+
+// The command that begins at a word, and the place behind its last word; nothing where it is not understood.
+fn read_command(words: &Vec<String>, at: usize) -> Result<Option<(Command, usize)>, AllocError>
+    ensures { λ r. ⌜ made r (λ o. Cases o (Unit {0}) (λ p. at < p .1)) ⌝ }
+{
+    if at >= words.len() {
+        return Ok(None);
+    }
+    match words[at].as_str() {
+        "order" => read_order(words, at),
+        "time-order" => Ok(read_time_order(words, at)),
+        _ => read_file(words, at),
     }
 }
 
