@@ -1,5 +1,6 @@
 // The calls of a relabelled list.
 ghost use mathlib.Core.Path.{_≡_};
+ghost use mathlib.Core.List.{[], _∷_};
 ghost use lib.Dec.{ltb};
 ghost use Rattle.std.specs.Results.{Cases};
 ghost use Rattle.std.specs.Of.Vec.{vec-len};
@@ -20,7 +21,7 @@ use refusals::kinds::OrderRefusal;
 impl RelabelledList {
     // A list of item 0 alone, with label 0. A refusal hands the table back as it was.
     pub fn make(limit: u32, rows: Vec<Row>) -> Result<Self, (MakerRefusal, Vec<Row>)>
-        ensures { λ r. ⌜ Cases r (λ o. (makerRefusal limit (ltb (vec-len rows) limit) ≡ None) × (relabelledEntries o ≡ fresh) × (o .limit ≡ limit)) (λ e. (makerRefusal limit (ltb (vec-len rows) limit) ≡ Some (e .0)) × (e .1 ≡ rows)) ⌝ }
+        ensures { λ r. ⌜ Cases r (λ o. (makerRefusal limit (ltb (vec-len rows) limit) ≡ None) × (relabelledItems o ≡ 0 ∷ []) × (relabelledEntries o ≡ fresh) × (o .limit ≡ limit)) (λ e. (makerRefusal limit (ltb (vec-len rows) limit) ≡ Some (e .0)) × (e .1 ≡ rows)) ⌝ }
     {
         if limit < 1 || limit > 4096 {
             return Err((MakerRefusal::LimitOutOfRange, rows));

@@ -5,7 +5,6 @@ use mathlib.Core.Path.{refl}
 use borrow.Author.Needs.{needs}
 use Rattle.linked_lists.proofs.Open as lists
 use Rattle.grouping.proofs.Fresh.{fresh-sound, fresh-blocks, fresh-kept}
-use Rattle.relabelled.proofs.Held.{items-fresh}
 use Rattle.two_level.proofs.list.TwoLevelList.make.Needs as need
 
 pub ghost-result : need.ghost-result
@@ -16,8 +15,8 @@ ghost-result c =
     let a = g .some in
     let b = g .few in
     let d = g .small in
-    let e = h .2 in
-    (∣ fresh-sound (c .args .rows .items) (c .args .limit) (omega arith) (omega arith) room _ e _ (items-fresh (c .in-Ok .groups) (h .1)) ∣₁, tt)
+    let e = h .3 in
+    (∣ fresh-sound (c .args .rows .items) (c .args .limit) (omega arith) (omega arith) room _ e _ (h .1) ∣₁, tt)
 
 pub returns-in-Ok : need.returns-in-Ok
 returns-in-Ok c =
@@ -27,7 +26,7 @@ returns-in-Ok c =
     let a = g .some in
     let b = g .few in
     let d = g .small in
-    let e = h .2 in
-    let k = fresh-blocks (c .args .rows .items) (c .args .limit) (omega arith) (omega arith) room _ e _ (items-fresh (c .in-Ok .groups) (h .1)) in
-    let s = fresh-kept (c .args .rows .items) (c .args .limit) (omega arith) (omega arith) room _ e _ (items-fresh (c .in-Ok .groups) (h .1)) in
-    (search needs, (refl, k, h .1, refl, s))
+    let e = h .3 in
+    let k = fresh-blocks (c .args .rows .items) (c .args .limit) (omega arith) (omega arith) room _ e _ (h .1) in
+    let s = fresh-kept (c .args .rows .items) (c .args .limit) (omega arith) (omega arith) room _ e _ (h .1) in
+    (search needs, (refl, k, h .2, refl, s))
