@@ -168,9 +168,7 @@ def answers(kind, limit, text):
     if not 1 <= limit <= WIDEST:
         return "refused 1\n"
     order = KINDS[kind](limit)
-    lines = text.split("\n")
-    if lines[-1] == "":
-        lines.pop()
+    lines = [line for line in text.split("\n") if line and not line.startswith("#")]
     out = "".join(f"{line} -> {answer(order, line)}\n" for line in lines)
     assert order.consistent()
     return out
@@ -217,7 +215,7 @@ def astray(rng, made):
 
 
 NOT_LINES = [
-    "", " ", "after", "after ", "after  0", " after 0", "after 0 ", "after 00", "after 01", "after +0", "after -1", "after 0x1", "after 4294967296",
+    "", "#", "# a remark", " #", " ", "after", "after ", "after  0", " after 0", "after 0 ", "after 00", "after 01", "after +0", "after -1", "after 0x1", "after 4294967296",
     "After 0", "afters 0", "after 0 1", "before 0", "before 0  1", "before 0 1 2", "before 0,1", "count 0", "count ", "Count", "label", "label a", "successor",
     "successor 0\t", "after 99999999999999999999", "after ０", "after 0\r",
 ]
