@@ -2,7 +2,7 @@
 --
 --   Key-figures     which of two jobs and of two names goes first
 --   Piece-figures   how many pieces some files have
---   Figures         all of them
+--   Figures         all of them; capacities and labels of version orders are stated in crate `labels`
 use mathlib.Core.Path.{_≡_}
 use mathlib.Core.Bool.{true}
 use lib.Chars.{codes}
@@ -10,6 +10,7 @@ use lib.IntN.{pos}
 use Rattle.keys.specs.Orders.{jobFirst}
 use Rattle.keys.specs.Bytes.{bytesFirst}
 use Rattle.keys.specs.Pieces.{pieces}
+use Rattle.labels.specs.Figures.{Capacity-figures, Label-figures}
 
 -- job 9 goes before job 10 of the same urgency 5; the name "ab" goes before "abc"
 abbrev pub Key-figures : Type 0
@@ -20,4 +21,4 @@ abbrev pub Piece-figures : Type 0
 Piece-figures = (pieces 0 ≡ 0) × (pieces 1 ≡ 1) × (pieces 65536 ≡ 1) × (pieces 65537 ≡ 2)
 
 abbrev pub Figures : Type 0
-Figures = Key-figures × Piece-figures
+Figures = Key-figures × Piece-figures × Capacity-figures × Label-figures
