@@ -3,19 +3,17 @@
 --   Line        what a line says: build, file, length, fingerprints
 --   meaning     the line that a value of the program stands for
 --   buildOf     the build that a word names
---   numbersOf   the numbers that words write, where each one does
 --   lineOf      the line that words write, or nothing
 use mathlib.Core.Bool.{cond}
-use mathlib.Core.List.{List, [], _∷_}
+use mathlib.Core.List.{List}
 use Prim.Native.Nat.{ℕ}
 use lib.Chars.{codes}
 use Rattle.std.specs.shelf.Text.{sameBytes}
 use Rattle.std.specs.Of.Vec.{vec-items}
 use Rattle.std.specs.declared.option.Option.{Option}
 use Rattle.std.specs.declared.option.Option.the-variants.{Some, None}
-use Rattle.text.specs.Numbers.{numberOf}
+use Rattle.text.specs.Numbers.{numberOf, numbersOf}
 use Rattle.text.specs.Left.{behindFirst, readFirst, ifThere}
-use Rattle.text.specs.Keyed.{both}
 use Rattle.compare.specs.declared.line.Build.{Build}
 use Rattle.compare.specs.declared.line.Build.the-variants.{Was, Now}
 use Rattle.compare.specs.declared.line.FileLine.{FileLine}
@@ -33,11 +31,6 @@ meaning l = record { build = l .build; file = l .file; size = l .length; prints 
 -- "was" is the old build, "now" the new one
 abbrev pub buildOf : List ℕ → Option Build
 buildOf w = cond (sameBytes w (codes "was")) (Some Was) (cond (sameBytes w (codes "now")) (Some Now) None)
-
--- the 64-bit numbers that the words write, where each word writes one
-abbrev pub numbersOf : List (List ℕ) → Option (List ℕ)
-numbersOf [] = Some []
-numbersOf (w ∷ ws) = both (λ (n : ℕ) (ns : List ℕ). n ∷ ns) (numberOf 64 w) (numbersOf ws)
 
 abbrev pub theLine : Build → ℕ → ℕ → List ℕ → Line
 theLine b f l ps = record { build = b; file = f; size = l; prints = ps }

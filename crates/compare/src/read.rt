@@ -1,12 +1,9 @@
 // Reading a line of the comparison.
 ghost use mathlib.Core.Path.{_≡_};
-ghost use mathlib.Core.List.{_++_};
 ghost use Rattle.std.specs.Options.{mapped};
-ghost use Rattle.std.specs.Of.Vec.{vec-items};
 ghost use Rattle.std.specs.Vec.{made};
 ghost use Rattle.text.specs.Parts.{words};
-ghost use Rattle.text.specs.Left.{left};
-ghost use Rattle.compare.specs.Lines.{buildOf, numbersOf, lineOf, meaning};
+ghost use Rattle.compare.specs.Lines.{buildOf, lineOf, meaning};
 use crate::line::Build;
 use crate::line::FileLine;
 use std::alloc::AllocError;
@@ -27,20 +24,6 @@ fn build_of(word: &[u8]) -> Option<Build>
     }
 }
 
-// The numbers that all remaining words write, or nothing where one does not.
-fn numbers(heap: Global, mut words: Parts) -> Result<Option<Vec<u64>>, AllocError>
-    ensures { λ r. ⌜ made r (λ o. mapped vec-items o ≡ numbersOf (left (words .entry))) ⌝ }
-{
-    let mut prints = Vec::new(heap);
-    while !words.is_done() {
-        let Some(print) = words.u64() else {
-            return Ok(None);
-        };
-        prints.push(print)?;
-    }
-    Ok(Some(prints))
-}
-
 // The file that a line speaks of, or nothing where it is no such line.
 pub fn read_line(heap: Global, line: &[u8]) -> Result<Option<FileLine>, AllocError>
     ensures { λ r. ⌜ made r (λ o. mapped meaning o ≡ lineOf (words (now (line .entry)))) ⌝ }
@@ -58,7 +41,7 @@ pub fn read_line(heap: Global, line: &[u8]) -> Result<Option<FileLine>, AllocErr
     let Some(length) = words.u64() else {
         return Ok(None);
     };
-    match numbers(heap, words)? {
+    match words.numbers(heap)? {
         Some(prints) => Ok(Some(FileLine {
             build,
             file,

@@ -19,10 +19,10 @@ use Rattle.std.specs.declared.option.Option.the-variants.{Some, None}
 use Rattle.keys.specs.declared.piece.PieceKey.{PieceKey}
 use Rattle.keys.specs.declared.job.JobKey.{JobKey}
 use Rattle.keys.specs.Shown.{pieceText, jobText}
-use Rattle.text.specs.Numbers.{numberOf, integerOf}
+use Rattle.text.specs.Numbers.{numberOf, integerOf, both}
 use Rattle.text.specs.Parts.{inFront, parts, joined, Without, words}
 use Rattle.text.specs.Left.{behindFirst, readFirst}
-use Rattle.text.specs.Keyed.{both, pieceKey, jobKey, pieceOf, jobOf}
+use Rattle.text.specs.Keyed.{pieceKey, jobKey, pieceOf, jobOf}
 use Rattle.text.specs.Laws.{Parts-join, Parts-split, Pieces-read-back, Pieces-are-written, Jobs-read-back, Jobs-are-written}
 use Rattle.text.proofs.Cuts.{parts-first}
 use Rattle.text.proofs.Inverse.{some-same, none-some, decimal-digits, numbers-read-back, numbers-are-written, integers-read-back, integers-are-written}

@@ -3,3 +3,4 @@ pub mod Cuts
 pub mod Inverse
 pub mod Joining
 pub mod Telling
+pub mod Sofar

@@ -9,14 +9,8 @@ use Rattle.std.specs.declared.option.Option.{Option}
 use Rattle.std.specs.declared.option.Option.the-variants.{Some, None}
 use Rattle.keys.specs.declared.piece.PieceKey.{PieceKey}
 use Rattle.keys.specs.declared.job.JobKey.{JobKey}
-use Rattle.text.specs.Numbers.{numberOf, integerOf}
+use Rattle.text.specs.Numbers.{numberOf, integerOf, both}
 use Rattle.text.specs.Left.{behindFirst, readFirst}
-
--- f of both values, where both are there
-abbrev pub both : {A B C : Type 0} → (A → B → C) → Option A → Option B → Option C
-both f None b = None
-both f (Some a) None = None
-both f (Some a) (Some b) = Some (f a b)
 
 abbrev pub pieceKey : ℕ → ℕ → PieceKey
 pieceKey file piece = record { file = file; piece = piece }

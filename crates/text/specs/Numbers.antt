@@ -5,6 +5,8 @@
 --   numeral     digits without a leading zero
 --   numberOf    the number below 2 ^ k that a text writes, or nothing
 --   integerOf   the signed 32-bit number that a text writes, or nothing
+--   both        what two values make, where both are there
+--   numbersOf   the 64-bit numbers that some texts write, where each one does
 use mathlib.Core.Bool.{Bool, true, false, cond, not, _&&_}
 use mathlib.Core.List.{List, [], _∷_}
 use Prim.Native.Nat.{ℕ, _+_, _-_, _*_, _^_}
@@ -45,3 +47,14 @@ unsigned (Some n) = cond (ltb n (2 ^ 31)) (Some (pos n)) None
 -- the signed 32-bit number that the text writes; byte 45 is the minus
 abbrev pub integerOf : List ℕ → Option ℤ
 integerOf bs = cond (eqb (getD bs 0 0) 45) (negated (numberOf 64 (drop 1 bs))) (unsigned (numberOf 64 bs))
+
+-- f of both values, where both are there
+abbrev pub both : {A B C : Type 0} → (A → B → C) → Option A → Option B → Option C
+both f None b = None
+both f (Some a) None = None
+both f (Some a) (Some b) = Some (f a b)
+
+-- the numbers that the texts write, where each text writes one
+abbrev pub numbersOf : List (List ℕ) → Option (List ℕ)
+numbersOf [] = Some []
+numbersOf (w ∷ ws) = both (λ (n : ℕ) (ns : List ℕ). n ∷ ns) (numberOf 64 w) (numbersOf ws)

@@ -5,4 +5,5 @@ pub mod laws;
 pub mod lines;
 pub mod numbers;
 pub mod reader;
+pub mod rest;
 pub mod split;
