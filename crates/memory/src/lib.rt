@@ -1,0 +1,3 @@
+// The meaning of pointer memories and versioned memories, its laws, and the two interfaces.
+pub mod pointer;
+pub mod versioned;
