@@ -5,3 +5,5 @@ pub mod Refused
 pub mod Each
 pub mod Kept
 pub mod Laws
+pub mod By
+pub mod Soundly
