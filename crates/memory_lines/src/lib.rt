@@ -1,0 +1,6 @@
+// Lines of text that call a memory: reading one, running it over any memory and any order, and the text of the answer.
+pub mod line;
+pub mod reply;
+pub mod run;
+pub mod show;
+pub mod versions;
