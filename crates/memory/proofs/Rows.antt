@@ -10,6 +10,7 @@ use Rattle.refusals.specs.declared.kinds.MemoryRefusal.{MemoryRefusal}
 use Rattle.memory.specs.Memory.{Memory}
 use Rattle.memory.specs.Steps.{Done, done, no, then}
 use Rattle.memory.specs.Promises.{Meets, MeetsIs, Comes, ComesTo}
+use Rattle.memory.specs.Effects.{Ends}
 
 ok-is : {S A B : Type 0} (P : S → Memory → Type 0) (s s1 s' : S) (a : A) (r : Result B MemoryRefusal) (d : Done A) (k : A → Memory → Done B) → MeetsIs P s s1 (Ok a) d → ((m : Memory) → P s1 m → Comes P s' r (k a m)) → Comes P s' r (then d k)
 ok-is P s s1 s' a r (done b m) k h f = subst (λ x. Comes P s' r (k x m)) (h .0) (f m (h .1))
@@ -95,3 +96,11 @@ run-exit {P = P} {s' = s'} {d = d} {r = r} k q h =
     let p = err-from-errBy r q in
     let t = p .1 ∙ ap Err (p .2) in
     subst⁻¹ (λ x. Comes P s' r (then x k)) (failed h) (record { to = t })
+
+comes-is : {S A : Type 0} (P : S → Memory → Type 0) (t : S) (r : Result A MemoryRefusal) (d : Done A) (Q : A → Memory → Type 0) → ComesTo P t r d → Ends d Q → (a : A) × (m : Memory) × (r ≡ Ok a) × P t m × Q a m
+comes-is P t r (done a m) Q c h = (a, m, c .0, c .1, h)
+comes-is P t r (no e) Q c h = absurd h
+
+-- a row of calls whose steps are accepted to the end: its answer, what the memory then means, and what holds of both
+pub comes-to-end : {S A : Type 0} {P : S → Memory → Type 0} {t : S} {r : Result A MemoryRefusal} (d : Done A) (Q : A → Memory → Type 0) → Comes P t r d → Ends d Q → (a : A) × (m : Memory) × (r ≡ Ok a) × P t m × Q a m
+comes-to-end {P = P} {t = t} {r = r} d Q c h = comes-is P t r d Q (c .to) h

@@ -4,6 +4,7 @@
 --   pushOf         the steps that put a node in front
 --   advanceOf      the steps that go a number of nodes on, in register 0
 --   valueAtOf      the steps that read the value of the node at a place
+--   twoOf          the steps that push two values and read both
 --   Push-lists     a push puts its value in front
 --   Walk-answers   the value at a place is the one that stands there
 use mathlib.Core.Path.{_≡_}
@@ -38,6 +39,14 @@ valueAtOf place m =
     then (loadOf 0 0 m) (λ _ m1.
     then (advanceOf place m1) (λ _ m2.
     numberOf 0 0 m2))
+
+-- 7 is pushed, then 9, and the values at places 0 and 1 are read
+abbrev pub twoOf : Memory → Done (ℕ × ℕ)
+twoOf m =
+    then (pushOf 1 7 m) (λ _ m1.
+    then (pushOf 2 9 m1) (λ _ m2.
+    then (valueAtOf 0 m2) (λ a m3.
+    then (valueAtOf 1 m3) (λ b m4. done (a, b) m4))))
 
 -- a push can be done: writes are allowed, a node and two changes are left, and the first node is named at most once
 pub record Ready (m : Memory) : Type 0 where

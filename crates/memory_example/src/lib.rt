@@ -1,6 +1,6 @@
 // A linked list over any memory and any order: generic code in rows of calls, and what its rows come to.
 ghost use Rattle.memory.specs.Promises.{Runs, Carries};
-ghost use Rattle.memory_example.specs.Chains.{pushOf, advanceOf, valueAtOf, Push-lists, Walk-answers};
+ghost use Rattle.memory_example.specs.Chains.{pushOf, advanceOf, valueAtOf, twoOf, Push-lists, Walk-answers};
 use memory::pointer::PointerMemory;
 use order::VersionOrder;
 use refusals::kinds::MemoryRefusal;
@@ -48,6 +48,20 @@ pub fn value_at<M: PointerMemory, O: VersionOrder>(
     mem.load(order, 0, 0)?;
     advance(mem, order, place)?;
     mem.value(order, 0)
+}
+
+// Pushes 7 and then 9, and answers the values at the first two places.
+pub fn two_values<M: PointerMemory, O: VersionOrder>(
+    mem: &mut M,
+    order: &O,
+) -> Result<(u64, u64), MemoryRefusal>
+    ensures { λ r. ⌜ Runs (λ s. M·PointerMemory .means s (O·VersionOrder .items (now (order .entry)))) (now (mem .entry)) (now (mem .exit)) r twoOf ⌝ }
+{
+    push(mem, order, 1, 7)?;
+    push(mem, order, 2, 9)?;
+    let first = value_at(mem, order, 0)?;
+    let second = value_at(mem, order, 1)?;
+    Ok((first, second))
 }
 
 // The rows do what a linked list is for.
