@@ -67,3 +67,24 @@ pub enum MemoryAnswer {
     Accepted(Reply),
     Refused(MemoryRefusal),
 }
+
+// The first word of a line.
+#[derive(Clone, Copy)]
+pub enum Word {
+    Load,
+    Follow,
+    Copy,
+    Key,
+    Value,
+    Mark,
+    Nil,
+    Same,
+    Make,
+    Save,
+    Link,
+    SetValue,
+    SetMark,
+    Open,
+    Enter,
+    Close,
+}
