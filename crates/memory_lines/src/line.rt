@@ -68,23 +68,43 @@ pub enum MemoryAnswer {
     Refused(MemoryRefusal),
 }
 
-// The first word of a line.
+// The first word of a line, by the kind of call.
 #[derive(Clone, Copy)]
-pub enum Word {
+pub enum MoveWord {
     Load,
     Follow,
     Copy,
+}
+
+#[derive(Clone, Copy)]
+pub enum QuestionWord {
     Key,
     Value,
     Mark,
     Nil,
     Same,
+}
+
+#[derive(Clone, Copy)]
+pub enum WriteWord {
     Make,
     Save,
     Link,
     SetValue,
     SetMark,
+}
+
+#[derive(Clone, Copy)]
+pub enum VersionWord {
     Open,
     Enter,
     Close,
+}
+
+#[derive(Clone, Copy)]
+pub enum Word {
+    Moves(MoveWord),
+    Asks(QuestionWord),
+    Writes(WriteWord),
+    Versions(VersionWord),
 }

@@ -1,6 +1,6 @@
 // So many numbers, each of its width, and no more.
 ghost use mathlib.Core.Path.{_≡_};
-ghost use Rattle.memory_lines.specs.Words.{one, two, wideTwo, three, four};
+ghost use Rattle.memory_reading.specs.Words.{one, two, wideTwo, three, four};
 
 const WIDTH: u64 = 4_294_967_296;
 

@@ -1,7 +1,7 @@
 // Reads a line of text: a word and decimal numbers, with one space between.
-use crate::line::MemoryLine;
 use crate::read::line_of;
 use crate::word::word_of;
+use memory_lines::line::MemoryLine;
 
 // The number of 64 bits that the text is in decimal, without leading zeros and without a sign.
 fn number(text: &str) -> Option<u64> {
