@@ -10,7 +10,7 @@ every version, and counts names by looking at every link and root, so it shares 
     memory.py random versioned SEED LINES V N C
     memory.py met FILE                     which refusals the answers in FILE have
 
-A program echoes each call before its answer, as `load 0 1: done`; at the end stand the nodes made and changes accepted.
+A program echoes each call before its answer, as `load 0 1 -> done`, and passes over empty lines and lines that start with #; at the end stand the nodes made and changes accepted.
 The generator leans towards calls that are accepted, and tries each refusal now and then: numbers out of range, nil
 registers, spent nodes and changes, third names, writes outside the draft, unknown versions, lines that are none.
 """
@@ -207,7 +207,8 @@ def answer(memory, line, single):
 
 def run(memory, single, lines):
     for line in lines:
-        yield f"{line}: {answer(memory, line, single)}"
+        if line and not line.startswith("#"):
+            yield f"{line} -> {answer(memory, line, single)}"
     yield f"{memory.made} nodes, {memory.changed} changes"
 
 

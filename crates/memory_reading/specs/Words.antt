@@ -1,16 +1,21 @@
 -- The words and numbers of a line, and the call that they are.
 --
---   wordText            a word, as bytes
+--   wordOf              the word that a text is, of the four kinds moveWord, questionWord, writeWord and versionWord
 --   one, two, three     that many numbers of 32 bits, and no more
 --   four                the numbers of `make`: the third has 64 bits
 --   wideTwo             the numbers of `set-value`: the second has 64 bits
 --   moveWith, questionWith, writeWith, versionWith, lineOf    the call of a word and its numbers; nothing where they do not fit
+--   textLine            the call that the words of a line write, or nothing
 use mathlib.Core.Bool.{Bool, true, false, cond, _&&_}
 use mathlib.Core.List.{List, [], _∷_}
 use Prim.Native.Nat.{ℕ, _^_}
+use lib.Chars.{codes}
 use lib.Dec.{ltb}
+use Rattle.std.specs.shelf.Text.{sameBytes}
 use Rattle.std.specs.declared.option.Option.{Option}
 use Rattle.std.specs.declared.option.Option.the-variants.{Some, None}
+use Rattle.text.specs.Numbers.{numbersOf}
+use Rattle.text.specs.Left.{behindFirst, readFirst, ifThere}
 use Rattle.memory_lines.specs.declared.line.Word.{Word}
 use Rattle.memory_lines.specs.declared.line.Word.the-variants as word
 use Rattle.memory_lines.specs.declared.line.MoveWord.{MoveWord}
@@ -34,24 +39,45 @@ use Rattle.memory_lines.specs.declared.line.VersionLine.the-variants.{Open, Ent
 use Rattle.memory_lines.specs.declared.line.MemoryLine.{MemoryLine}
 use Rattle.memory_lines.specs.declared.line.MemoryLine.the-variants.{Pointer, Version}
 
--- load, follow, move, key, value, mark, nil, same, make, save, link, set-value, set-mark, open, enter, close
-abbrev pub wordText : Word → List ℕ
-wordText (word.Moves moves.Load) = 108 ∷ 111 ∷ 97 ∷ 100 ∷ []
-wordText (word.Moves moves.Follow) = 102 ∷ 111 ∷ 108 ∷ 108 ∷ 111 ∷ 119 ∷ []
-wordText (word.Moves moves.Copy) = 109 ∷ 111 ∷ 118 ∷ 101 ∷ []
-wordText (word.Asks asks.Key) = 107 ∷ 101 ∷ 121 ∷ []
-wordText (word.Asks asks.Value) = 118 ∷ 97 ∷ 108 ∷ 117 ∷ 101 ∷ []
-wordText (word.Asks asks.Mark) = 109 ∷ 97 ∷ 114 ∷ 107 ∷ []
-wordText (word.Asks asks.Nil) = 110 ∷ 105 ∷ 108 ∷ []
-wordText (word.Asks asks.Same) = 115 ∷ 97 ∷ 109 ∷ 101 ∷ []
-wordText (word.Writes writes.Make) = 109 ∷ 97 ∷ 107 ∷ 101 ∷ []
-wordText (word.Writes writes.Save) = 115 ∷ 97 ∷ 118 ∷ 101 ∷ []
-wordText (word.Writes writes.Link) = 108 ∷ 105 ∷ 110 ∷ 107 ∷ []
-wordText (word.Writes writes.SetValue) = 115 ∷ 101 ∷ 116 ∷ 45 ∷ 118 ∷ 97 ∷ 108 ∷ 117 ∷ 101 ∷ []
-wordText (word.Writes writes.SetMark) = 115 ∷ 101 ∷ 116 ∷ 45 ∷ 109 ∷ 97 ∷ 114 ∷ 107 ∷ []
-wordText (word.Versions versions.Open) = 111 ∷ 112 ∷ 101 ∷ 110 ∷ []
-wordText (word.Versions versions.Enter) = 101 ∷ 110 ∷ 116 ∷ 101 ∷ 114 ∷ []
-wordText (word.Versions versions.Close) = 99 ∷ 108 ∷ 111 ∷ 115 ∷ 101 ∷ []
+-- words that move registers
+abbrev pub moveWord : List ℕ → Option MoveWord
+moveWord w =
+    cond (sameBytes w (codes "load")) (Some moves.Load) (cond (sameBytes w (codes "follow")) (Some moves.Follow) (cond (sameBytes w (codes "move")) (Some moves.Copy) None))
+
+-- words that only ask
+abbrev pub questionWord : List ℕ → Option QuestionWord
+questionWord w =
+    cond (sameBytes w (codes "key")) (Some asks.Key)
+    (cond (sameBytes w (codes "value")) (Some asks.Value)
+    (cond (sameBytes w (codes "mark")) (Some asks.Mark)
+    (cond (sameBytes w (codes "nil")) (Some asks.Nil)
+    (cond (sameBytes w (codes "same")) (Some asks.Same) None))))
+
+-- words that make a node or write
+abbrev pub writeWord : List ℕ → Option WriteWord
+writeWord w =
+    cond (sameBytes w (codes "make")) (Some writes.Make)
+    (cond (sameBytes w (codes "save")) (Some writes.Save)
+    (cond (sameBytes w (codes "link")) (Some writes.Link)
+    (cond (sameBytes w (codes "set-value")) (Some writes.SetValue)
+    (cond (sameBytes w (codes "set-mark")) (Some writes.SetMark) None))))
+
+-- words about versions
+abbrev pub versionWord : List ℕ → Option VersionWord
+versionWord w =
+    cond (sameBytes w (codes "open")) (Some versions.Open) (cond (sameBytes w (codes "enter")) (Some versions.Enter) (cond (sameBytes w (codes "close")) (Some versions.Close) None))
+
+-- the first of some words that is there
+abbrev pub firstWord : Option MoveWord → Option QuestionWord → Option WriteWord → Option VersionWord → Option Word
+firstWord (Some w) q r v = Some (word.Moves w)
+firstWord None (Some w) r v = Some (word.Asks w)
+firstWord None None (Some w) v = Some (word.Writes w)
+firstWord None None None (Some w) = Some (word.Versions w)
+firstWord None None None None = None
+
+-- the word that a text is
+abbrev pub wordOf : List ℕ → Option Word
+wordOf w = firstWord (moveWord w) (questionWord w) (writeWord w) (versionWord w)
 
 -- a number of 32 bits
 abbrev pub narrow : ℕ → Bool
@@ -126,3 +152,7 @@ lineOf (word.Moves w) ns = onto (λ l. Pointer (Moves l)) (moveWith w ns)
 lineOf (word.Asks w) ns = onto (λ l. Pointer (Asks l)) (questionWith w ns)
 lineOf (word.Writes w) ns = onto (λ l. Pointer (Writes l)) (writeWith w ns)
 lineOf (word.Versions w) ns = onto (λ l. Version l) (versionWith w ns)
+
+-- a word, and 64-bit numbers to the end of the line
+abbrev pub textLine : List (List ℕ) → Option MemoryLine
+textLine ws = ifThere (readFirst wordOf ws) (λ w. ifThere (numbersOf (behindFirst ws)) (λ ns. lineOf w ns))

@@ -1,5 +1,5 @@
 // Reading lines that call a memory.
 mod numbers;
 pub mod parse;
-pub mod read;
-pub mod word;
+mod read;
+mod word;

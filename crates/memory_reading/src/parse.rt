@@ -1,35 +1,28 @@
-// Reads a line of text: a word and decimal numbers, with one space between.
+// Reads a line of text: a word and decimal numbers, with single spaces between.
+ghost use mathlib.Core.Path.{_≡_};
+ghost use Rattle.std.specs.Vec.{made};
+ghost use Rattle.text.specs.Parts.{words};
+ghost use Rattle.memory_reading.specs.Words.{textLine};
 use crate::read::line_of;
 use crate::word::word_of;
 use memory_lines::line::MemoryLine;
-
-// The number of 64 bits that the text is in decimal, without leading zeros and without a sign.
-fn number(text: &str) -> Option<u64> {
-    let bytes = text.as_bytes();
-    if bytes.len() == 0 || bytes[0] == b'+' {
-        return None;
-    }
-    if bytes[0] == b'0' && bytes.len() > 1 {
-        return None;
-    }
-    match text.parse::<u64>() {
-        Ok(n) => Some(n),
-        Err(_) => None,
-    }
-}
+use std::alloc::AllocError;
+use std::alloc::Global;
+use text::split::Parts;
 
 // The line that the text is; nothing where it is none.
-pub fn parse_line(text: &str) -> Option<MemoryLine> {
-    let mut numbers = [0u64; 4];
-    let mut count = 0;
-    let mut pieces = text.split(' ');
-    let word = word_of(pieces.next()?)?;
-    for piece in pieces {
-        if count >= 4 {
-            return None;
-        }
-        numbers[count] = number(piece)?;
-        count += 1;
+pub fn parse_line(heap: Global, line: &[u8]) -> Result<Option<MemoryLine>, AllocError>
+    ensures { λ r. ⌜ made r (λ o. o ≡ textLine (words (now (line .entry)))) ⌝ }
+{
+    let mut words = Parts::words(line);
+    let Some(part) = words.part() else {
+        return Ok(None);
+    };
+    let Some(word) = word_of(part) else {
+        return Ok(None);
+    };
+    match words.numbers(heap)? {
+        Some(numbers) => Ok(line_of(word, numbers.as_slice())),
+        None => Ok(None),
     }
-    line_of(word, &numbers[0..count])
 }

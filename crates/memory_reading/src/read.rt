@@ -118,7 +118,7 @@ fn version_of(word: VersionWord, numbers: &[u64]) -> Option<VersionLine>
 }
 
 // Any call; nothing where word and numbers do not fit.
-pub fn line_of(word: Word, numbers: &[u64]) -> Option<MemoryLine>
+pub(crate) fn line_of(word: Word, numbers: &[u64]) -> Option<MemoryLine>
     ensures { λ r. ⌜ r ≡ lineOf word (now (numbers .entry)) ⌝ }
 {
     match word {

@@ -3,6 +3,7 @@ use std::error::AnyError;
 
 mod comparing;
 mod keying;
+mod memories;
 mod ordering;
 mod orders;
 mod output;
@@ -11,6 +12,7 @@ mod usage;
 
 use comparing::run_compare;
 use keying::run_keys;
+use memories::run_memory;
 use ordering::run_order;
 use std::fs;
 use std::io::Read;
@@ -40,6 +42,9 @@ fn run(rt: &LibcRuntime) -> Result<(), AnyError> {
                 *limit,
                 input(rt, file.as_str())?.as_slice(),
             )?,
+            Command::Memory { kind, nodes, changes, file } => {
+                run_memory(rt, *kind, *nodes, *changes, input(rt, file.as_str())?.as_slice())?
+            }
             Command::TimeOrder { kind, items } => run_time_order(rt, *kind, *items)?,
         }
     }

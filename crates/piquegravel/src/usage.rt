@@ -2,6 +2,7 @@
 ghost use Prim.Native.Nat.{_<_};
 ghost use Rattle.std.specs.Options.{Cases};
 ghost use Rattle.std.specs.Vec.{made};
+use crate::memories::MemoryKind;
 use crate::orders::OrderKind;
 use crate::orders::order_kind;
 use std::alloc::AllocError;
@@ -27,6 +28,12 @@ pub enum Command {
         kind: OrderKind,
         items: u32,
     },
+    Memory {
+        kind: MemoryKind,
+        nodes: u32,
+        changes: u32,
+        file: String,
+    },
 }
 
 const USAGE: &str = "usage: piquegravel COMMAND..
@@ -34,6 +41,10 @@ const USAGE: &str = "usage: piquegravel COMMAND..
   keys FILE      which of two keys goes first: lines 'piece F P F P', 'name \"A\" \"B\"' and 'job U N U N'
   order relabelled|two-level V FILE
                  calls of a version order of at most V items: lines 'after A', 'before A B', 'successor A', 'count' and 'label A'
+  memory single - - N C FILE
+                 calls of a memory of at most N nodes and C changes: lines 'load ROOT REG', 'follow REG LINK INTO', 'move FROM INTO',
+                 'key REG', 'value REG', 'mark REG', 'nil REG', 'same REG REG', 'make REG PLACE VALUE MARK', 'save ROOT REG',
+                 'link REG LINK FROM', 'set-value REG X' and 'set-mark REG X'
   time-order relabelled|two-level ITEMS
                  how long the calls of a version order take
 FILE is a path, or - for standard input. Several commands may follow one another.";
@@ -73,6 +84,26 @@ fn read_time_order(words: &Vec<String>, at: usize) -> Option<(Command, usize)>
     Some((Command::TimeOrder { kind, items }, at + 3))
 }
 
+// The words of `memory` behind the first: for single-version memory the order's kind and V are not asked for.
+fn read_memory(words: &Vec<String>, at: usize) -> Result<Option<(Command, usize)>, AllocError>
+    ensures { λ r. ⌜ made r (λ o. Cases o (Unit {0}) (λ p. at < p .1)) ⌝ }
+{
+    if at >= words.len() || words.len() - at < 7 {
+        return Ok(None);
+    }
+    if words[at + 1].as_str() != "single" || words[at + 2].as_str() != "-" || words[at + 3].as_str() != "-" {
+        return Ok(None);
+    }
+    let Some(nodes) = read_limit(words[at + 4].as_str()) else {
+        return Ok(None);
+    };
+    let Some(changes) = read_limit(words[at + 5].as_str()) else {
+        return Ok(None);
+    };
+    let file = words[at + 6].clone()?;
+    Ok(Some((Command::Memory { kind: MemoryKind::Single, nodes, changes, file }, at + 7)))
+}
+
 // A command of one file.
 fn read_file(words: &Vec<String>, at: usize) -> Result<Option<(Command, usize)>, AllocError>
     ensures { λ r. ⌜ made r (λ o. Cases o (Unit {0}) (λ p. at < p .1)) ⌝ }
@@ -98,6 +129,7 @@ fn read_command(words: &Vec<String>, at: usize) -> Result<Option<(Command, usize
     match words[at].as_str() {
         "order" => read_order(words, at),
         "time-order" => Ok(read_time_order(words, at)),
+        "memory" => read_memory(words, at),
         _ => read_file(words, at),
     }
 }
