@@ -5,12 +5,13 @@ use mathlib.Core.Bool.{Bool, true, false, cond}
 use mathlib.Core.Logic.{_⊎_, ⊎-elim}
 use Prim.Native.Nat.{ℕ, suc, _+_, _-_, _≤_, _<_}
 use native.Mathlib.Omega.{arith}
+use Rattle.std.specs.Options.{isSome}
 use Rattle.std.specs.declared.option.Option.{Option}
 use Rattle.std.specs.declared.option.Option.the-variants.{Some, None}
 use Rattle.memory.specs.Memory.{Node, State, Memory, changed, put, hits, withLink, withNumber, newNode, renamed, namesOf, sumTo, nodeHits, count, Orderly}
 use Rattle.memory.specs.Steps.{Done, done, no, then, withReg, Kind, ofLink, ofNumber, written, rootSet, linkSet, nodeSet, born, entered, opened, closed, isNil, sameRef, loadOf, followOf, moveOf, keyOf, numberOf, nilOf, sameOf, makeOf, saveOf, linkOf, setNumberOf, openOf, enterOf, closeOf}
 use Rattle.memory.specs.Effects.{Ends, Holds, Free, Changed, Wrote, Linked, Numbered, Rooted}
-use Rattle.memory.proofs.Numbers.{put-same, put-other, hits-one, sum-part, names-at-most}
+use Rattle.memory.proofs.Numbers.{put-same, put-other, hits-one, hits-none, none-some, sum-part, sum-zero, names-at-most}
 use Rattle.memory.proofs.Accepted.{load-done, follow-done, move-done, key-done, number-done, nil-done, same-done, make-done, save-done, link-done, set-number-done, open-done, enter-done, close-done}
 use Rattle.memory.proofs.Kept.{low}
 
@@ -36,6 +37,11 @@ pub ends-done : {A : Type 0} (d : Done A) (Q : A → Memory → Type 0) → Ends
 ends-done (done a m) Q h = (a, m, refl, h)
 ends-done (no e) Q h = absurd h
 
+-- the last call of a row, as a row of its own
+pub ends-last : {A : Type 0} (d : Done A) (Q : A → Memory → Type 0) → Ends (then d (λ a m. done a m)) Q → Ends d Q
+ends-last (done a m) Q h = h
+ends-last (no e) Q h = h
+
 -- Names in a state that is in order: what one link or root adds to a count, the count has.
 
 pub link-names : (made : ℕ) (s : State) (k : ℕ) (n : Node) (side i : ℕ) → Orderly made s → side < 2 → s .nodes k ≡ Some n → hits i (n .links side) ≤ s .names i
@@ -48,6 +54,23 @@ link-names made s k n side i O l e =
 
 pub root-names : (made : ℕ) (s : State) (r i : ℕ) → Orderly made s → r < 3 → hits i (s .roots r) ≤ s .names i
 root-names made s r i O l = let a = sum-part 3 r (λ j. hits i (s .roots j)) l in let c = O .counted i in omega arith
+
+-- a node that is not made yet is not named
+node-unnamed : (i : ℕ) (x : Option Node) → ((n : Node) (side : ℕ) → side < 2 → x ≡ Some n → n .links side ≡ Some i → ⊥) → nodeHits i x ≡ 0
+node-unnamed i None h = refl
+node-unnamed i (Some n) h = sum-zero 2 (λ side. hits i (n .links side)) (λ side l. hits-none i (n .links side) (λ e. h n side l refl e))
+
+absent : (x : Option Node) → x ≡ None → isSome x ≡ true → ⊥
+absent None e h = let z : _≡_ {A = ℕ} 0 1 = cc in omega arith
+absent (Some n) e h = absurd (none-some (sym e))
+
+pub unborn-names : (made : ℕ) (s : State) (k : ℕ) → Orderly made s → made ≤ k → s .names k ≡ 0
+unborn-names made s k O l =
+    let none = O .unborn k l in
+    let a = sum-zero 3 (λ r. hits k (s .roots r)) (λ r h. hits-none k (s .roots r) (λ e. absent (s .nodes k) none (O .rooted r k h e))) in
+    let b = sum-zero made (λ j. nodeHits k (s .nodes j)) (λ j h. node-unnamed k (s .nodes j) (λ n side g e f. absent (s .nodes k) none (O .linked j n side k g e f))) in
+    let c = O .counted k in
+    omega arith
 
 -- The memory after a write.
 
@@ -64,7 +87,8 @@ linked-set : (m : Memory) (j : ℕ) (n : Node) (side : ℕ) (x : Option ℕ) →
 linked-set m j n side x true-old = record {
   change = link-changed m (linkSet (m .state) j n side x);
   wrote = record { here = put-same (m .state .nodes) j (Some (withLink side x n)); else = λ i g. put-other (m .state .nodes) j i (Some (withLink side x n)) g; roots = λ i. refl };
-  named = λ i. let a = true-old i in omega arith }
+  named = λ i. let a = true-old i in omega arith;
+}
 
 rooted-set : (m : Memory) (root : ℕ) (x : Option ℕ) → ((i : ℕ) → hits i (m .state .roots root) ≤ m .state .names i) → Rooted m (written ofLink m (rootSet (m .state) root x)) root x
 rooted-set m root x true-old = record {
@@ -72,13 +96,15 @@ rooted-set m root x true-old = record {
   here = put-same (m .state .roots) root x;
   else = λ i g. put-other (m .state .roots) root i x g;
   nodes = λ i. refl;
-  named = λ i. let a = true-old i in omega arith }
+  named = λ i. let a = true-old i in omega arith;
+}
 
 numbered-set : (m : Memory) (j : ℕ) (n : Node) (field x : ℕ) → Numbered m (written ofNumber m (nodeSet (m .state) j (withNumber field x n))) j n field x
 numbered-set m j n field x = record {
   change = number-changed m (nodeSet (m .state) j (withNumber field x n));
   wrote = record { here = put-same (m .state .nodes) j (Some (withNumber field x n)); else = λ i g. put-other (m .state .nodes) j i (Some (withNumber field x n)) g; roots = λ i. refl };
-  named = λ i. refl }
+  named = λ i. refl;
+}
 
 -- One call off the front of a row.
 
@@ -117,20 +143,20 @@ module _ {B : Type 0} (k : Unit {0} → Memory → Done B) (Q : B → Memory →
   by-make reg key value mark m l w r h = by-done k Q (makeOf reg key value mark m) tt (born m reg (newNode key value mark)) (make-done reg key value mark m l w r) h
 
   pub by-link : (from side reg j : ℕ) (n : Node) (m : Memory) (x : Option ℕ) → Holds m from j n → side < 2 → reg < 40 → Free m → m .regs reg ≡ x
-    → ((i : ℕ) → hits i (n .links side) ≤ m .state .names i) → ((i : ℕ) → x ≡ Some i → m .state .names i ≤ 1 + hits i (n .links side))
-    → ((m' : Memory) → Linked m m' j n side x → Ends (k tt m') Q) → Ends (then (linkOf from side reg m) k) Q
+      → ((i : ℕ) → hits i (n .links side) ≤ m .state .names i) → ((i : ℕ) → x ≡ Some i → m .state .names i ≤ 1 + hits i (n .links side))
+      → ((m' : Memory) → Linked m m' j n side x → Ends (k tt m') Q) → Ends (then (linkOf from side reg m) k) Q
   by-link from side reg j n m x H l l' F e true-old few h =
-    by-done k Q (linkOf from side reg m) tt (written ofLink m (linkSet (m .state) j n side x))
+      by-done k Q (linkOf from side reg m) tt (written ofLink m (linkSet (m .state) j n side x))
       (link-done from side reg j n m H l l' F (subst (λ y. namesOf (renamed (m .state .names) (n .links side) y) y ≤ 2) (sym e) (two-names (m .state .names) x (n .links side) few))
-       ∙ ap (λ y. done tt (written ofLink m (linkSet (m .state) j n side y))) e) (h _ (linked-set m j n side x true-old))
+      ∙ ap (λ y. done tt (written ofLink m (linkSet (m .state) j n side y))) e) (h _ (linked-set m j n side x true-old))
 
   pub by-save : (root reg : ℕ) (m : Memory) (x : Option ℕ) → root < 3 → reg < 40 → Free m → m .regs reg ≡ x
-    → ((i : ℕ) → hits i (m .state .roots root) ≤ m .state .names i) → ((i : ℕ) → x ≡ Some i → m .state .names i ≤ 1 + hits i (m .state .roots root))
-    → ((m' : Memory) → Rooted m m' root x → Ends (k tt m') Q) → Ends (then (saveOf root reg m) k) Q
+      → ((i : ℕ) → hits i (m .state .roots root) ≤ m .state .names i) → ((i : ℕ) → x ≡ Some i → m .state .names i ≤ 1 + hits i (m .state .roots root))
+      → ((m' : Memory) → Rooted m m' root x → Ends (k tt m') Q) → Ends (then (saveOf root reg m) k) Q
   by-save root reg m x l l' F e true-old few h =
-    by-done k Q (saveOf root reg m) tt (written ofLink m (rootSet (m .state) root x))
+      by-done k Q (saveOf root reg m) tt (written ofLink m (rootSet (m .state) root x))
       (save-done root reg m l l' F (subst (λ y. namesOf (renamed (m .state .names) (m .state .roots root) y) y ≤ 2) (sym e) (two-names (m .state .names) x (m .state .roots root) few))
-       ∙ ap (λ y. done tt (written ofLink m (rootSet (m .state) root y))) e) (h _ (rooted-set m root x true-old))
+      ∙ ap (λ y. done tt (written ofLink m (rootSet (m .state) root y))) e) (h _ (rooted-set m root x true-old))
 
   pub by-set-number : (field reg x j : ℕ) (n : Node) (m : Memory) → Holds m reg j n → Free m → ((m' : Memory) → Numbered m m' j n field x → Ends (k tt m') Q) → Ends (then (setNumberOf field reg x m) k) Q
   by-set-number field reg x j n m H F h = by-done k Q (setNumberOf field reg x m) tt (written ofNumber m (nodeSet (m .state) j (withNumber field x n))) (set-number-done field reg x j n m H F) (h _ (numbered-set m j n field x))
