@@ -1,0 +1,6 @@
+pub mod Parts
+pub mod Writing
+pub mod Idle
+pub mod Nodes
+pub mod Changes
+pub mod Turns

@@ -1,0 +1,4 @@
+pub mod Stored
+pub mod Writes
+pub mod Becomes
+pub mod Theorems
