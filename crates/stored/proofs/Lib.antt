@@ -4,3 +4,4 @@ pub mod Idle
 pub mod Nodes
 pub mod Changes
 pub mod Turns
+pub mod Wholes
