@@ -1,0 +1,5 @@
+pub mod Reds
+pub mod InsertFixes
+pub mod InsertCosts
+pub mod Inserts
+pub mod Adds

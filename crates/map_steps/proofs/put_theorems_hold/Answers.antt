@@ -1,0 +1,5 @@
+use Rattle.map_steps.proofs.Adds.{add-ends}
+use Rattle.map_steps.proofs.put_theorems_hold.Needs as need
+
+pub returns : need.returns
+returns c = add-ends

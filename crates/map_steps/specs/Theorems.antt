@@ -1,0 +1,25 @@
+-- What the map's rows of steps do to the whole working state.
+--
+--   Add-inserts     the steps of `addOf` put a new key into the map
+use mathlib.Core.Path.{_≡_}
+use mathlib.Core.Bool.{Bool, true, false}
+use Prim.Native.Nat.{ℕ, _<_}
+use Rattle.trees.specs.Trees.{Tree}
+use Rattle.trees.specs.Lists.{KeyOrder}
+use Rattle.trees.specs.RedBlack.{holds}
+use Rattle.trees.specs.Theorems.{putTree}
+use Rattle.memory.specs.Memory.{Memory}
+use Rattle.memory.specs.Effects.{Ends}
+use Rattle.stored.specs.Whole.{Stands, Room, Spent}
+use Rattle.map_steps.specs.Insert.{addOf}
+
+module _ (before sooner : ℕ → ℕ → Bool) where
+  -- the map has become this tree, both queues are as before, and an update's worth was spent
+  pub record MapIs (m m′ : Memory) (map : Tree Bool ℕ) (due held : Tree ℕ ℕ) (nodes : ℕ) : Type 0 where
+    pub stands : Stands before sooner m′ map due held
+    pub spent : Spent m m′ nodes
+
+-- a key that is not there, at the place k of the book, gets the next node
+abbrev pub Add-inserts : Type 0
+Add-inserts = (before sooner : ℕ → ℕ → Bool) → KeyOrder before → (k v : ℕ) (m : Memory) (map : Tree Bool ℕ) (due held : Tree ℕ ℕ) → Stands before sooner m map due held → Room m → m .made < m .nodeLimit → holds before k map ≡ false
+  → Ends (addOf (before k) k v m) (λ _ m′. MapIs before sooner m m′ (putTree before k v (m .made) map) due held 1)

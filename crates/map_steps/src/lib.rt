@@ -1,0 +1,10 @@
+// The map's rows of steps, and what they do to the whole working state. Each function here names theorems by its contract; nothing of
+// it is run.
+ghost use Rattle.map_steps.specs.Theorems.{Add-inserts};
+
+// A new key is put into the map.
+pub fn put_theorems_hold() -> u8
+    ensures { λ _. ⌜ Add-inserts ⌝ }
+{
+    0
+}
