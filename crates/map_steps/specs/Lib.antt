@@ -1,2 +1,3 @@
 pub mod Insert
+pub mod Remove
 pub mod Theorems

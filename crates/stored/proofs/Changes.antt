@@ -172,11 +172,11 @@ module _ {M : Type 0} (enc : M → ℕ) where
   }
 
   -- a child has changed, and the link to it is written
-  pub relinked : (m m₁ m₂ : Memory) (d r : ℕ) (s : Bool) (t u : Tree M ℕ) (n : ℕ) (x : Node) (q : Cost) → d < r → d < 30 → rootOf t ≡ Some n → Ready enc m d t → occurrences n u ≡ 0 → m₁ .state .nodes n ≡ Some x → x .links (side s) ≡ rootOf (child s t)
+  pub relinked : (m m₁ m₂ : Memory) (d r : ℕ) (s : Bool) (t u : Tree M ℕ) (n : ℕ) (x : Node) (q : Cost) → d < r → d < 30 → rootOf t ≡ Some n → Ready enc m d t → occurrences n u ≡ 0 → m .state .nodes n ≡ Some x → x .links (side s) ≡ rootOf (child s t)
       → Becomes enc m m₁ r (child s t) u q → Relinked m₁ m₂ n x s (rootOf u) → Becomes enc m m₂ d t (withChild s t u) (plus q (cost 1 0 0))
   relinked m m₁ m₂ d r s t u n x q l l′ e R z h old V L = record {
     reg = L .spends .regs d (omega arith) ∙ V .kept d l ∙ R .reg ∙ sym (root-withChild s t u);
-    stored = link-stored enc (m .state .nodes) (m₁ .state .nodes) (m₂ .state .nodes) s t u n x (L .y) e (R .distinct) (λ i z w. V .others i z (R .within i w)) h (L .edited .here) (L .edited .else) (L .key) (L .numbers) (L .near) (L .far) z (R .stored) (V .stored);
+    stored = link-stored enc (m .state .nodes) (m₁ .state .nodes) (m₂ .state .nodes) s t u n x (L .y) e (R .distinct) (λ i _ z w. V .others i z (R .within i w)) h (L .edited .here) (L .edited .else) (L .key) (L .numbers) (L .near) (L .far) z (R .stored) (V .stored);
     others = λ i p v. L .edited .else i (λ g. let y : rootOf t ≡ Some i = e ∙ ap Some g in omega (arith, hits-some i (rootOf t) y, hits-root i t)) ∙ V .others i (omega (arith, of-children i s t)) v;
     kept = λ j p. L .spends .regs j (omega arith) ∙ V .kept j (omega arith);
     still = λ j a b. L .spends .regs j (omega arith) ∙ V .still j a b;
@@ -213,7 +213,7 @@ module _ {M A : Type 0} (enc : M → ℕ) (k : Unit {0} → Memory → Done A) (
       (record { writable = V .writable ∙ R .may; left = omega (arith, V .linked, V .numbered, V .changeLimit) }) (V .reg)
       (λ i. omega (arith, old i, V .named i, R .counted i, inside-children i s t, hits-root i (child s t)))
       (λ i y. let w = low i (omega (arith, hits-some i (rootOf u) y, hits-root i u)) in omega (arith, hits-some i (rootOf u) y, V .named i, hits-root i u, dis i)))
-      (λ _ m₂ L. go m₂ (relinked enc m m₁ m₂ d r s t u n x q l (omega arith) e R z here (N .2) V L) (L .spends .regs) (L .spends .made) (L .edited .else))
+      (λ _ m₂ L. go m₂ (relinked enc m m₁ m₂ d r s t u n x q l (omega arith) e R z (N .1) (N .2) V L) (L .spends .regs) (L .spends .made) (L .edited .else))
 
   -- the root's mark is written where it differs
   pub by-mark : (m : Memory) (d : ℕ) → d < 30 → (c : M) (t : Tree M ℕ) → isNode t ≡ true → Ready enc m d t → changed m < m .changeLimit

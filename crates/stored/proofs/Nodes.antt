@@ -75,19 +75,19 @@ module _ {M : Type 0} (enc : M → ℕ) where
   move-node nodes nodes′ s n c e a b p h = record { it = h .it; there = p ∙ h .there; key = h .key; value = h .value; mark = h .mark; near = h .near; far = h .far }
 
   link-on : (nodes₀ nodes₁ nodes₂ : ℕ → Option Node) (s : Bool) (n : ℕ) (c : M) (e : Entry ℕ) (a b u : Tree M ℕ) (x y : Node)
-      → Stored enc nodes₀ (nodeOn s n c e a b) → nodes₁ n ≡ nodes₀ n → ((i : ℕ) → 1 ≤ occurrences i b → nodes₁ i ≡ nodes₀ i) → nodes₁ n ≡ Some x → nodes₂ n ≡ Some y → ((j : ℕ) → (n ≡ j → ⊥) → nodes₂ j ≡ nodes₁ j)
+      → Stored enc nodes₀ (nodeOn s n c e a b) → ((i : ℕ) → 1 ≤ occurrences i b → nodes₁ i ≡ nodes₀ i) → nodes₀ n ≡ Some x → nodes₂ n ≡ Some y → ((j : ℕ) → (n ≡ j → ⊥) → nodes₂ j ≡ nodes₁ j)
       → y .key ≡ x .key → ((i : ℕ) → y .numbers i ≡ x .numbers i) → y .links (side s) ≡ rootOf u → y .links (side (not s)) ≡ x .links (side (not s))
       → occurrences n b ≡ 0 → occurrences n u ≡ 0 → Stored enc nodes₁ u → Stored enc nodes₂ (nodeOn s n c e u b)
-  link-on nodes₀ nodes₁ nodes₂ s n c e a b u x y h here ob p q else k num near far zb zu hu =
+  link-on nodes₀ nodes₁ nodes₂ s n c e a b u x y h ob p q else k num near far zb zu hu =
       let g = node-on enc nodes₀ s n c e a b h in
       on-node enc nodes₂ s n c e u b
-      (link-node nodes₁ nodes₂ s n c e a b u x y (move-node nodes₀ nodes₁ s n c e a b here (g .0)) p q k num near far)
+      (link-node nodes₀ nodes₂ s n c e a b u x y (g .0) p q k num near far)
       (keep-else enc nodes₁ nodes₂ n u else zu hu)
       (keep-else enc nodes₁ nodes₂ n b else zb (keep enc nodes₀ nodes₁ b ob (g .2)))
 
-  -- the child on the side s has become u, and the link to it is written
+  -- The child on the side s has become u, and the link to it is written. The root was x before both.
   pub link-stored : (nodes₀ nodes₁ nodes₂ : ℕ → Option Node) (s : Bool) (t u : Tree M ℕ) (n : ℕ) (x y : Node) → rootOf t ≡ Some n → Distinct t
-      → ((i : ℕ) → occurrences i (child s t) ≡ 0 → 1 ≤ occurrences i t → nodes₁ i ≡ nodes₀ i) → nodes₁ n ≡ Some x → nodes₂ n ≡ Some y → ((j : ℕ) → (n ≡ j → ⊥) → nodes₂ j ≡ nodes₁ j)
+      → ((i : ℕ) → (n ≡ i → ⊥) → occurrences i (child s t) ≡ 0 → 1 ≤ occurrences i t → nodes₁ i ≡ nodes₀ i) → nodes₀ n ≡ Some x → nodes₂ n ≡ Some y → ((j : ℕ) → (n ≡ j → ⊥) → nodes₂ j ≡ nodes₁ j)
       → y .key ≡ x .key → ((i : ℕ) → y .numbers i ≡ x .numbers i) → y .links (side s) ≡ rootOf u → y .links (side (not s)) ≡ x .links (side (not s))
       → occurrences n u ≡ 0 → Stored enc nodes₀ t → Stored enc nodes₁ u → Stored enc nodes₂ (withChild s t u)
   link-stored nodes₀ nodes₁ nodes₂ s leaf u n x y e dis o p q else k num near far zu h hu = no-node e
@@ -95,12 +95,16 @@ module _ {M : Type 0} (enc : M → ℕ) where
       let same : m ≡ n = some-same e in
       let dm = dis m in
       let one = self m in
-      link-on nodes₀ nodes₁ nodes₂ true m c f r l u x y h (o m (omega arith) (omega arith)) (λ i w. let di = dis i in o i (omega arith) (omega arith)) (ap nodes₁ same ∙ p) (ap nodes₂ same ∙ q) (λ j w. else j (λ z. w (same ∙ z))) k num near far (omega arith) (ap (λ (j : ℕ). occurrences j u) same ∙ zu) hu
+      let none : occurrences m l ≡ 0 = omega arith in
+      let apart : (i : ℕ) → 1 ≤ occurrences i l → m ≡ i → ⊥ = λ i w z. (let y : occurrences i l ≡ 0 = ap (λ (j : ℕ). occurrences j l) (sym z) ∙ none in omega arith) in
+      link-on nodes₀ nodes₁ nodes₂ true m c f r l u x y h (λ i w. let di = dis i in o i (λ z. apart i w (same ∙ z)) (omega arith) (omega arith)) (ap nodes₀ same ∙ p) (ap nodes₂ same ∙ q) (λ j w. else j (λ z. w (same ∙ z))) k num near far (omega arith) (ap (λ (j : ℕ). occurrences j u) same ∙ zu) hu
   link-stored nodes₀ nodes₁ nodes₂ false (node m c f l r) u n x y e dis o p q else k num near far zu h hu =
       let same : m ≡ n = some-same e in
       let dm = dis m in
       let one = self m in
-      link-on nodes₀ nodes₁ nodes₂ false m c f l r u x y h (o m (omega arith) (omega arith)) (λ i w. let di = dis i in o i (omega arith) (omega arith)) (ap nodes₁ same ∙ p) (ap nodes₂ same ∙ q) (λ j w. else j (λ z. w (same ∙ z))) k num near far (omega arith) (ap (λ (j : ℕ). occurrences j u) same ∙ zu) hu
+      let none : occurrences m r ≡ 0 = omega arith in
+      let apart : (i : ℕ) → 1 ≤ occurrences i r → m ≡ i → ⊥ = λ i w z. (let y : occurrences i r ≡ 0 = ap (λ (j : ℕ). occurrences j r) (sym z) ∙ none in omega arith) in
+      link-on nodes₀ nodes₁ nodes₂ false m c f l r u x y h (λ i w. let di = dis i in o i (λ z. apart i w (same ∙ z)) (omega arith) (omega arith)) (ap nodes₀ same ∙ p) (ap nodes₂ same ∙ q) (λ j w. else j (λ z. w (same ∙ z))) k num near far (omega arith) (ap (λ (j : ℕ). occurrences j u) same ∙ zu) hu
 
   -- a child has changed and kept its root
   pub under-stored : (nodes₀ nodes₁ : ℕ → Option Node) (s : Bool) (t u : Tree M ℕ) → rootOf u ≡ rootOf (child s t) → Distinct t
