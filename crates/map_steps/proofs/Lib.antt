@@ -5,3 +5,5 @@ pub mod Inserts
 pub mod Adds
 pub mod Siblings
 pub mod Shorts
+pub mod Takes
+pub mod StepsUp
