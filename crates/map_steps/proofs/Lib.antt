@@ -7,3 +7,5 @@ pub mod Siblings
 pub mod Shorts
 pub mod Takes
 pub mod StepsUp
+pub mod Firsts
+pub mod Roots
