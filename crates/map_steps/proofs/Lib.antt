@@ -9,3 +9,5 @@ pub mod Takes
 pub mod StepsUp
 pub mod Firsts
 pub mod Roots
+pub mod Removes
+pub mod Drops

@@ -12,6 +12,7 @@
 --   firstOf            the first node of a tree leaves its place, into register 36
 --   replaceOf          the node of register 36 takes the place of another
 --   rootOutOf          the root of a tree is taken out
+--   wayTo              on which side of a place a key lies, or nothing where it is there
 --   removeOf           the node with a key is taken out
 --   dropOf             the whole, from root 0
 use mathlib.Core.Bool.{Bool, true, false, cond, not, _||_}
@@ -135,6 +136,9 @@ belowOf below d s m = then (followOf d (side s) (suc d) m) (λ _ m1. then (below
 abbrev pub onWay : {A : Type 0} → Option Bool → A → (Bool → A) → A
 onWay None here there = here
 onWay (Some s) here there = there s
+
+abbrev pub wayTo : (ℕ → ℕ → Bool) → ℕ → ℕ → Option Bool
+wayTo before k p = cond (before k p) (Some false) (cond (before p k) (Some true) None)
 
 -- way tells on which side of a place the key lies, or nothing where it is there
 unfoldable pub removeOf : (ℕ → Option Bool) → ℕ → ℕ → Memory → Done Bool

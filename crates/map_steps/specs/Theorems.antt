@@ -1,17 +1,20 @@
 -- What the map's rows of steps do to the whole working state.
 --
 --   Add-inserts     the steps of `addOf` put a new key into the map
+--   Drop-removes    the steps of `dropOf` take a key out of the map
 use mathlib.Core.Path.{_≡_}
 use mathlib.Core.Bool.{Bool, true, false}
 use Prim.Native.Nat.{ℕ, _<_}
 use Rattle.trees.specs.Trees.{Tree}
 use Rattle.trees.specs.Lists.{KeyOrder}
 use Rattle.trees.specs.RedBlack.{holds}
-use Rattle.trees.specs.Theorems.{putTree}
+use Rattle.std.specs.declared.option.Option.the-variants.{None}
+use Rattle.trees.specs.Theorems.{putTree, dropTree}
 use Rattle.memory.specs.Memory.{Memory}
 use Rattle.memory.specs.Effects.{Ends}
 use Rattle.stored.specs.Whole.{Stands, Room, Spent}
 use Rattle.map_steps.specs.Insert.{addOf}
+use Rattle.map_steps.specs.Remove.{wayTo, dropOf}
 
 module _ (before sooner : ℕ → ℕ → Bool) where
   -- the map has become this tree, both queues are as before, and an update's worth was spent
@@ -23,3 +26,8 @@ module _ (before sooner : ℕ → ℕ → Bool) where
 abbrev pub Add-inserts : Type 0
 Add-inserts = (before sooner : ℕ → ℕ → Bool) → KeyOrder before → (k v : ℕ) (m : Memory) (map : Tree Bool ℕ) (due held : Tree ℕ ℕ) → Stands before sooner m map due held → Room m → m .made < m .nodeLimit → holds before k map ≡ false
   → Ends (addOf (before k) k v m) (λ _ m′. MapIs before sooner m m′ (putTree before k v (m .made) map) due held 1)
+
+-- a key that is there; register 35 is nil
+abbrev pub Drop-removes : Type 0
+Drop-removes = (before sooner : ℕ → ℕ → Bool) → KeyOrder before → (k : ℕ) (m : Memory) (map : Tree Bool ℕ) (due held : Tree ℕ ℕ) → Stands before sooner m map due held → Room m → m .regs 35 ≡ None → holds before k map ≡ true
+  → Ends (dropOf (wayTo before k) m) (λ _ m′. MapIs before sooner m m′ (dropTree before k map) due held 0)
