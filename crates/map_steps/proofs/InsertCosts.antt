@@ -25,7 +25,7 @@ module _ {K : Type 0} where
     pub nodes : c .nodes ≡ 1
 
   pub cheap-step : (s : Bool) (n : ℕ) (c : Bool) (e : Entry K) (a a′ b : Tree Bool K) (x : Cost) (h : ℕ) → Balanced (nodeOn s n c e a b) → Grows a a′ → Cheap h a′ x
-    → Cheap (suc h) (insertFixed s (nodeOn s n c e a′ b)) (plus (plus x (cost 1 0 0)) (fixCost s (nodeOn s n c e a′ b)))
+      → Cheap (suc h) (insertFixed s (nodeOn s n c e a′ b)) (plus (plus x (cost 1 0 0)) (fixCost s (nodeOn s n c e a′ b)))
   unfolding insertFixed fixCost
   cheap-step true n c e a a′ b x h balanced g w = let p = w .links in let q = w .numbers in let o = w .nodes in grind arith
   cheap-step false n c e a a′ b x h balanced g w = let p = w .links in let q = w .numbers in let o = w .nodes in grind arith
@@ -41,15 +41,15 @@ module _ {K : Type 0} (before : K → K → Bool) (k : K) (v n : ℕ) where
   abbrev pub insertCost : Tree Bool K → Cost
   insertCost leaf = cost 0 0 1
   insertCost (node m c f l r) =
-    cond (before k (f .key)) (plus (plus (insertCost l) (cost 1 0 0)) (fixCost false (node m c f (inserted before k v n l) r)))
-    (plus (plus (insertCost r) (cost 1 0 0)) (fixCost true (node m c f l (inserted before k v n r))))
+      cond (before k (f .key)) (plus (plus (insertCost l) (cost 1 0 0)) (fixCost false (node m c f (inserted before k v n l) r)))
+      (plus (plus (insertCost r) (cost 1 0 0)) (fixCost true (node m c f l (inserted before k v n r))))
 
   pub insert-cheap : (t : Tree Bool K) → Balanced t → Cheap (height t) (inserted before k v n t) (insertCost t)
   insert-cheap leaf h = record { links = omega arith; numbers = omega arith; nodes = refl }
   insert-cheap (node m c f l r) h =
-    by-test2 (λ u x. Cheap (height (node m c f l r)) u x) (before k (f .key)) _ _ _ _
-    (λ _. cheap-more (suc (height l)) _ _ _ (omega arith) (cheap-step false m c f l (inserted before k v n l) r (insertCost l) (height l) h (grows before k v n l (h .0)) (insert-cheap l (h .0))))
-    (λ _. cheap-more (suc (height r)) _ _ _ (omega arith) (cheap-step true m c f r (inserted before k v n r) l (insertCost r) (height r) h (grows before k v n r (h .1)) (insert-cheap r (h .1))))
+      by-test2 (λ u x. Cheap (height (node m c f l r)) u x) (before k (f .key)) _ _ _ _
+      (λ _. cheap-more (suc (height l)) _ _ _ (omega arith) (cheap-step false m c f l (inserted before k v n l) r (insertCost l) (height l) h (grows before k v n l (h .0)) (insert-cheap l (h .0))))
+      (λ _. cheap-more (suc (height r)) _ _ _ (omega arith) (cheap-step true m c f r (inserted before k v n r) l (insertCost r) (height r) h (grows before k v n r (h .1)) (insert-cheap r (h .1))))
 
   pub insert-links : (t : Tree Bool K) → Balanced t → insertCost t .links ≤ 4 * height t + 3
   insert-links t h = omega (arith, insert-cheap t h .links, small (redTop (inserted before k v n t)) 3)

@@ -11,3 +11,5 @@ pub mod Firsts
 pub mod Roots
 pub mod Removes
 pub mod Drops
+pub mod Finds
+pub mod Nexts

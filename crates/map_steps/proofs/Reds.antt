@@ -29,17 +29,17 @@ module _ {A : Type 0} (k : Bool → Memory → Done A) (Q : A → Memory → Typ
   unfolding redOf
   by-red r l m leaf e h g = then-in (nilOf r m) _ k (by-nil _ Q r None m l e g)
   by-red r l m (node n true f a b) e h g =
-    then-in (nilOf r m) _ k (by-nil _ Q r (Some n) m l e (then-in (numberOf 1 r m) _ k
-    (by-number (λ x m2. k (eqb x 1) m2) Q 1 r n (h .0 .it) m (record { low = l; names = e; node = h .0 .there }) (rw (h .0 .mark) g))))
+      then-in (nilOf r m) _ k (by-nil _ Q r (Some n) m l e (then-in (numberOf 1 r m) _ k
+      (by-number (λ x m2. k (eqb x 1) m2) Q 1 r n (h .0 .it) m (record { low = l; names = e; node = h .0 .there }) (rw (h .0 .mark) g))))
   by-red r l m (node n false f a b) e h g =
-    then-in (nilOf r m) _ k (by-nil _ Q r (Some n) m l e (then-in (numberOf 1 r m) _ k
-    (by-number (λ x m2. k (eqb x 1) m2) Q 1 r n (h .0 .it) m (record { low = l; names = e; node = h .0 .there }) (rw (h .0 .mark) g))))
+      then-in (nilOf r m) _ k (by-nil _ Q r (Some n) m l e (then-in (numberOf 1 r m) _ k
+      (by-number (λ x m2. k (eqb x 1) m2) Q 1 r n (h .0 .it) m (record { low = l; names = e; node = h .0 .there }) (rw (h .0 .mark) g))))
 
 module _ {A : Type 0} (k : Unit {0} → Memory → Done A) (Q : A → Memory → Type 0) where
   -- register d holds t; its child goes into register r
   pub by-child : {M : Type 0} (enc : M → ℕ) (m : Memory) (d r : ℕ) (s : Bool) (t : Tree M ℕ) → d < 40 → r < 40 → isNode t ≡ true → m .regs d ≡ rootOf t → Stored enc (m .state .nodes) t
-    → Ends (k tt (withReg m r (rootOf (child s t)))) Q → Ends (then (followOf d (side s) r m) k) Q
+      → Ends (k tt (withReg m r (rootOf (child s t)))) Q → Ends (then (followOf d (side s) r m) k) Q
   by-child enc m d r s t ld lr f e h go =
-    let nt = root-of t f in
-    let N = stored-root enc (m .state .nodes) s t (nt .0) (nt .1) h in
-    by-follow k Q d (side s) r (nt .0) (N .0) m (rootOf (child s t)) (record { low = ld; names = e ∙ nt .1; node = N .1 }) (side-low s) lr (N .2) go
+      let nt = root-of t f in
+      let N = stored-root enc (m .state .nodes) s t (nt .0) (nt .1) h in
+      by-follow k Q d (side s) r (nt .0) (N .0) m (rootOf (child s t)) (record { low = ld; names = e ∙ nt .1; node = N .1 }) (side-low s) lr (N .2) go

@@ -67,25 +67,25 @@ Siblings short s v = short ≡ true → (isNode (child (not s) v) ≡ true) × (
 
 -- the side is put right where it is short
 pub short-after : (m m₃ : Memory) (d : ℕ) (s : Bool) (t v : Tree Bool ℕ) (short : Bool) (c : Cost) → Ready colour m₃ d v → NamedOnce m₃ v → m₃ .regs 35 ≡ None → suc d < 26 → Siblings short s v → changed m₃ + 16 ≤ m₃ .changeLimit
-  → ((i : ℕ) → occurrences i v ≤ occurrences i t) → Becomes colour m m₃ d t v c
-  → Ends (cond short (shortFixOf d s m₃) (done false m₃)) (λ short′ m′. (short′ ≡ cond short (shortFixed s v) (record { tree = v; short = false }) .short) × Becomes colour m m′ d t (cond short (shortFixed s v) (record { tree = v; short = false }) .tree) (plus c (cond short (shortCost s v) nothing)) × ((i : ℕ) → occurrences i v ≡ 0 → i < m₃ .made → m′ .state .nodes i ≡ m₃ .state .nodes i))
+    → ((i : ℕ) → occurrences i v ≤ occurrences i t) → Becomes colour m m₃ d t v c
+    → Ends (cond short (shortFixOf d s m₃) (done false m₃)) (λ short′ m′. (short′ ≡ cond short (shortFixed s v) (record { tree = v; short = false }) .short) × Becomes colour m m′ d t (cond short (shortFixed s v) (record { tree = v; short = false }) .tree) (plus c (cond short (shortCost s v) nothing)) × ((i : ℕ) → occurrences i v ≡ 0 → i < m₃ .made → m′ .state .nodes i ≡ m₃ .state .nodes i))
 short-after m m₃ d s t v true c R L nil l b q fewer V =
-  let z = b refl in
-  ends-all (shortFixOf d s m₃) _ _ (short-ends m₃ d s v R L nil l (z .0) (z .1) q)
-  (λ short′ m′ F. (F .0, in-turn colour m m₃ m′ d t v (shortFixed s v .tree) c (shortCost s v) (λ i w e. omega (arith, fewer i)) V (F .1), F .1 .others))
+    let z = b refl in
+    ends-all (shortFixOf d s m₃) _ _ (short-ends m₃ d s v R L nil l (z .0) (z .1) q)
+    (λ short′ m′ F. (F .0, in-turn colour m m₃ m′ d t v (shortFixed s v .tree) c (shortCost s v) (λ i w e. omega (arith, fewer i)) V (F .1), F .1 .others))
 short-after m m₃ d s t v false c R L nil l b q fewer V = (refl, recost m m₃ d t v c (plus c nothing) (cost-eq _ _ (omega arith) (omega arith) (omega arith)) V, λ i z w. refl)
 
 pub step-ends : (m m₁ : Memory) (d : ℕ) (s : Bool) (t : Tree Bool ℕ) (x : Shrunk ℕ) (c : Cost) → Ready colour m d t → NamedOnce m t → m .regs 35 ≡ None → suc d < 26 → isNode t ≡ true → Balanced t → Shrinks (child s t) x
-  → ((i : ℕ) → occurrences i (x .tree) ≤ occurrences i (child s t)) → changed m + (writes c + 17) ≤ m .changeLimit
-  → Becomes colour m m₁ (suc d) (child s t) (x .tree) c
-  → Ends (stepUpOf d s (x .short) m₁) (λ short m′. (short ≡ stepUp s t x .short) × Becomes colour m m′ d t (stepUp s t x .tree) (plus c (stepCost s t x)) × ((i : ℕ) → occurrences i (withChild s t (x .tree)) ≡ 0 → i < m .made → m′ .state .nodes i ≡ m₁ .state .nodes i))
+    → ((i : ℕ) → occurrences i (x .tree) ≤ occurrences i (child s t)) → changed m + (writes c + 17) ≤ m .changeLimit
+    → Becomes colour m m₁ (suc d) (child s t) (x .tree) c
+    → Ends (stepUpOf d s (x .short) m₁) (λ short m′. (short ≡ stepUp s t x .short) × Becomes colour m m′ d t (stepUp s t x .tree) (plus c (stepCost s t x)) × ((i : ℕ) → occurrences i (withChild s t (x .tree)) ≡ 0 → i < m .made → m′ .state .nodes i ≡ m₁ .state .nodes i))
 unfolding stepUpOf
 step-ends m m₁ d s t x c R L nil l ft balanced thin fewer sp V =
-  let u = x .tree in
-  let nt = root-of t ft in
-  let n = nt .0 in
-  let v = withChild s t u in
-  by-relink colour _ _ m m₁ d (suc d) (omega arith) s t u n c (omega arith) (nt .1) R
+    let u = x .tree in
+    let nt = root-of t ft in
+    let n = nt .0 in
+    let v = withChild s t u in
+    by-relink colour _ _ m m₁ d (suc d) (omega arith) s t u n c (omega arith) (nt .1) R
     (omega (arith, R .distinct n, of-children n s t, hits-some n (rootOf t) (nt .1), fewer n))
     (λ i. omega (arith, R .distinct i, of-children i s t, fewer i))
     (λ i p. L i (omega (arith, of-children i s t, fewer i)))
@@ -95,10 +95,12 @@ step-ends m m₁ d s t x c R L nil l ft balanced thin fewer sp V =
     let L₃ = once-after colour m m₃ d t v (plus c (cost 1 0 0)) tv (root-withChild s t u) L V₃ in
     let parts = balanced-parts s t balanced in
     let there : Siblings (x .short) s v = λ h.
-      let w = sibling-there (child s t) (child (not s) t) x (parts .2) (parts .1) thin h in
-      subst (λ (k : Tree Bool ℕ). (isNode k ≡ true) × (red k ≡ true → isNode (child s k) ≡ true)) (sym (other-withChild s t u)) (w .0, λ r. w .1 r s) in
+    let w = sibling-there (child s t) (child (not s) t) x (parts .2) (parts .1) thin h in
+    subst (λ (k : Tree Bool ℕ). (isNode k ≡ true) × (red k ≡ true → isNode (child s k) ≡ true)) (sym (other-withChild s t u)) (w .0, λ r. w .1 r s) in
     ends-all (cond (x .short) (shortFixOf d s m₃) (done false m₃)) _ _
     (short-after m m₃ d s t v (x .short) (plus c (cost 1 0 0)) R₃ L₃ (V₃ .still 35 (omega arith) (omega arith) ∙ nil) l there (omega (arith, V₃ .linked, V₃ .numbered, V₃ .changeLimit)) tv V₃)
-    (λ short m′ F. (F .0 ∙ ap (λ (y : Shrunk ℕ). y .short) (sym (as-step s t x (x .short) refl))
-      , subst₂ (λ (y : Shrunk ℕ) (z : Cost). Becomes colour m m′ d t (y .tree) z) (sym (as-step s t x (x .short) refl)) (cost-eq _ _ (omega arith) (omega arith) (omega arith)) (F .1)
-      , λ i z w. F .2 i z (omega (arith, V₃ .made)) ∙ E₃ i (λ g. let y : rootOf t ≡ Some i = nt .1 ∙ ap Some g in omega (arith, hits-some i (rootOf t) y, of-withChild i s t u ft)))))
+    (λ short m′ F. (
+      F .0 ∙ ap (λ (y : Shrunk ℕ). y .short) (sym (as-step s t x (x .short) refl)),
+      subst₂ (λ (y : Shrunk ℕ) (z : Cost). Becomes colour m m′ d t (y .tree) z) (sym (as-step s t x (x .short) refl)) (cost-eq _ _ (omega arith) (omega arith) (omega arith)) (F .1),
+      λ i z w. F .2 i z (omega (arith, V₃ .made)) ∙ E₃ i (λ g. let y : rootOf t ≡ Some i = nt .1 ∙ ap Some g in omega (arith, hits-some i (rootOf t) y, of-withChild i s t u ft)),
+    )))

@@ -49,12 +49,12 @@ module _ {K : Type 0} where
   spliced-black (node n c e l r) h = rw h
 
 pub spliced-ends : (m : Memory) (d : ℕ) (c : Bool) (u : Tree Bool ℕ) → Ready colour m d u → d < 26 → changed m < m .changeLimit
-  → Ends (splicedOf d c m) (λ short m′. (short ≡ spliced c u .short) × Becomes colour m m′ d u (spliced c u .tree) (splicedCost c u))
+    → Ends (splicedOf d c m) (λ short m′. (short ≡ spliced c u .short) × Becomes colour m m′ d u (spliced c u .tree) (splicedCost c u))
 unfolding splicedOf
 spliced-ends m d true u R l q = subst (λ (y : Shrunk ℕ). (false ≡ y .short) × Becomes colour m m d u (y .tree) nothing) (sym (spliced-red u)) (refl, stay colour m d u u R refl)
 spliced-ends m d false u R l q = by-red _ _ d (omega arith) m u (R .reg) (R .stored) (ends-cond (red u) _ _ _
-  (λ h. by-mark colour _ _ m d (omega arith) false u (red-node u h) R q (λ m′ G V. rw h (subst (λ (y : Shrunk ℕ). (false ≡ y .short) × Becomes colour m m′ d u (y .tree) (cost 0 1 0)) (sym (spliced-mark u h)) (refl, V))))
-  (λ h. rw h (subst (λ (y : Shrunk ℕ). (true ≡ y .short) × Becomes colour m m d u (y .tree) nothing) (sym (spliced-black u h)) (refl, stay colour m d u u R refl))))
+    (λ h. by-mark colour _ _ m d (omega arith) false u (red-node u h) R q (λ m′ G V. rw h (subst (λ (y : Shrunk ℕ). (false ≡ y .short) × Becomes colour m m′ d u (y .tree) (cost 0 1 0)) (sym (spliced-mark u h)) (refl, V))))
+    (λ h. rw h (subst (λ (y : Shrunk ℕ). (true ≡ y .short) × Becomes colour m m d u (y .tree) nothing) (sym (spliced-black u h)) (refl, stay colour m d u u R refl))))
 
 -- the node n, which was x, has no links, after at most so many writes
 pub record Cleared (links : ℕ) (m m′ : Memory) (n : ℕ) (x : Node) : Type 0 where
@@ -67,24 +67,25 @@ pub record Cleared (links : ℕ) (m m′ : Memory) (n : ℕ) (x : Node) : Type 0
   pub named : (i : ℕ) → m′ .state .names i + hits i (x .links 0) + hits i (x .links 1) ≡ m .state .names i
 
 pub blank-ends : (m : Memory) (r n : ℕ) (x : Node) → Holds m r n x → m .regs 35 ≡ None → m .writable ≡ true → changed m + 2 ≤ m .changeLimit → ((i : ℕ) → hits i (x .links 0) + hits i (x .links 1) ≤ m .state .names i)
-  → Ends (blankOf r m) (λ _ m′. Cleared 2 m m′ n x)
+    → Ends (blankOf r m) (λ _ m′. Cleared 2 m m′ n x)
 unfolding blankOf
 blank-ends m r n x H nil may q true-old =
-  by-link _ _ r 0 35 n x m None H (omega arith) (omega arith) (record { writable = may; left = omega arith }) nil (λ i. omega (arith, true-old i)) (λ i g. no-node g) (λ m₁ L₁.
-  let C₁ = L₁ .change in
-  let x₁ = withLink 0 None x in
-  ends-last (linkOf r 1 35 m₁) _ (by-link _ _ r 1 35 n x₁ m₁ None (record { low = H .low; names = C₁ .regs r ∙ H .names; node = L₁ .wrote .here }) (omega arith) (omega arith)
+    by-link _ _ r 0 35 n x m None H (omega arith) (omega arith) (record { writable = may; left = omega arith }) nil (λ i. omega (arith, true-old i)) (λ i g. no-node g) (λ m₁ L₁.
+    let C₁ = L₁ .change in
+    let x₁ = withLink 0 None x in
+    ends-last (linkOf r 1 35 m₁) _ (by-link _ _ r 1 35 n x₁ m₁ None (record { low = H .low; names = C₁ .regs r ∙ H .names; node = L₁ .wrote .here }) (omega arith) (omega arith)
     (record { writable = C₁ .writable ∙ may; left = omega (arith, C₁ .linked, C₁ .numbered, C₁ .changeLimit) }) (C₁ .regs 35 ∙ nil)
     (λ i. omega (arith, L₁ .named i, true-old i)) (λ i g. no-node g) (λ m₂ L₂.
-  let C₂ = L₂ .change in
-  record {
-    y = withLink 1 None x₁;
-    edited = record { here = L₂ .wrote .here; else = λ j ne. L₂ .wrote .else j ne ∙ L₁ .wrote .else j ne; roots = λ i. L₂ .wrote .roots i ∙ L₁ .wrote .roots i };
-    spends = record { regs = λ j _. C₂ .regs j ∙ C₁ .regs j; made = C₂ .made ∙ C₁ .made; linked = omega (arith, C₂ .linked, C₁ .linked); numbered = omega (arith, C₂ .numbered, C₁ .numbered); nodeLimit = C₂ .nodeLimit ∙ C₁ .nodeLimit; changeLimit = C₂ .changeLimit ∙ C₁ .changeLimit; writable = C₂ .writable ∙ C₁ .writable; rest = C₂ .rest ∙ C₁ .rest };
-    key = refl;
-    numbers = λ i. refl;
-    nil = both-nil x;
-    named = λ i. omega (arith, L₂ .named i, L₁ .named i) })))
+    let C₂ = L₂ .change in
+    record {
+      y = withLink 1 None x₁;
+      edited = record { here = L₂ .wrote .here; else = λ j ne. L₂ .wrote .else j ne ∙ L₁ .wrote .else j ne; roots = λ i. L₂ .wrote .roots i ∙ L₁ .wrote .roots i };
+      spends = record { regs = λ j _. C₂ .regs j ∙ C₁ .regs j; made = C₂ .made ∙ C₁ .made; linked = omega (arith, C₂ .linked, C₁ .linked); numbered = omega (arith, C₂ .numbered, C₁ .numbered); nodeLimit = C₂ .nodeLimit ∙ C₁ .nodeLimit; changeLimit = C₂ .changeLimit ∙ C₁ .changeLimit; writable = C₂ .writable ∙ C₁ .writable; rest = C₂ .rest ∙ C₁ .rest };
+      key = refl;
+      numbers = λ i. refl;
+      nil = both-nil x;
+      named = λ i. omega (arith, L₂ .named i, L₁ .named i);
+    })))
   where
     both-nil : (x : Node) (s : Bool) → withLink 1 None (withLink 0 None x) .links (side s) ≡ None
     both-nil x true = refl
@@ -93,15 +94,21 @@ blank-ends m r n x H nil may q true-old =
 -- one link is nil already, and the other is written
 one-link : (m m′ : Memory) (n : ℕ) (x : Node) (s : Bool) → x .links (side (not s)) ≡ None → Relinked m m′ n x s None → Cleared 1 m m′ n x
 one-link m m′ n x s bare L = record {
-  y = L .y; edited = L .edited; spends = L .spends; key = L .key; numbers = L .numbers;
+  y = L .y;
+  edited = L .edited;
+  spends = L .spends;
+  key = L .key;
+  numbers = L .numbers;
   nil = both-nil s (L .y) (L .near) (L .far ∙ bare);
-  named = λ i. let a : hits i (x .links (side (not s))) ≡ 0 = ap (hits i) bare in let b = sides s i in omega (arith, L .named i) }
+  named = λ i. let a : hits i (x .links (side (not s))) ≡ 0 = ap (hits i) bare in let b = sides s i in omega (arith, L .named i);
+}
   where
     both-nil : (s : Bool) (y : Node) → y .links (side s) ≡ None → y .links (side (not s)) ≡ None → (r : Bool) → y .links (side r) ≡ None
     both-nil true y a b true = a
     both-nil true y a b false = b
     both-nil false y a b true = b
     both-nil false y a b false = a
+
     sides : (s : Bool) (i : ℕ) → hits i (x .links 0) + hits i (x .links 1) ≡ hits i (x .links (side s)) + hits i (x .links (side (not s)))
     sides true i = omega arith
     sides false i = omega arith
@@ -111,11 +118,11 @@ sides-sum x true i = omega arith
 sides-sum x false i = omega arith
 
 clear-ends : (out : Bool) (m : Memory) (s : Bool) (n : ℕ) (x : Node) → Holds m 36 n x → m .regs 35 ≡ None → m .writable ≡ true → changed m + 2 ≤ m .changeLimit → ((i : ℕ) → hits i (x .links 0) + hits i (x .links 1) ≤ m .state .names i) → x .links (side (not s)) ≡ None
-  → Ends (cond out (blankOf 36 m) (relinkOf 36 s 35 m)) (λ _ m′. Cleared (cond out 2 1) m m′ n x)
+    → Ends (cond out (blankOf 36 m) (relinkOf 36 s 35 m)) (λ _ m′. Cleared (cond out 2 1) m m′ n x)
 clear-ends true m s n x H nil may q true-old bare = blank-ends m 36 n x H nil may q true-old
 clear-ends false m s n x H nil may q true-old bare =
-  ends-all (relinkOf 36 s 35 m) _ _ (relink-ends m 36 s 35 n x None H (omega arith) (omega arith) (omega arith) (record { writable = may; left = omega arith }) nil (λ i. omega (arith, true-old i, sides-sum x s i)) (λ i g. no-node g))
-  (λ _ m′ L. one-link m m′ n x s bare L)
+    ends-all (relinkOf 36 s 35 m) _ _ (relink-ends m 36 s 35 n x None H (omega arith) (omega arith) (omega arith) (record { writable = may; left = omega arith }) nil (λ i. omega (arith, true-old i, sides-sum x s i)) (λ i g. no-node g))
+    (λ _ m′ L. one-link m m′ n x s bare L)
 
 -- the node n, which was x, is in register 36, without links
 pub record Taken (out : Bool) (m m′ : Memory) (d : ℕ) (s : Bool) (t : Tree Bool ℕ) (n : ℕ) (x : Node) (short : Bool) : Type 0 where
@@ -132,50 +139,60 @@ small true = omega arith
 small false = omega arith
 
 pub take-ends : (out : Bool) (m : Memory) (d : ℕ) (s : Bool) (t : Tree Bool ℕ) (n : ℕ) (x : Node) → rootOf t ≡ Some n → m .state .nodes n ≡ Some x → child (not s) t ≡ leaf → Ready colour m d t → m .regs 35 ≡ None → d < 26 → changed m + 3 ≤ m .changeLimit
-  → Ends (takeOf out d s m) (λ short m′. Taken out m m′ d s t n x short)
+    → Ends (takeOf out d s m) (λ short m′. Taken out m m′ d s t n x short)
 unfolding takeOf
 take-ends out m d s t n x e hx bare R nil l q =
-  let u = child s t in
-  let m₁ = withReg m 36 (Some n) in
-  let m₂ = withReg m₁ d (rootOf u) in
-  let zn : occurrences n u ≡ 0 = omega (arith, R .distinct n, of-children n s t, hits-some n (rootOf t) e) in
-  let zb : (i : ℕ) → occurrences i (child (not s) t) ≡ 0 = λ i. ap (λ (y : Tree Bool ℕ). occurrences i y) bare in
-  let wn : n < m .made = R .within n (omega (arith, hits-root n t, hits-some n (rootOf t) e)) in
-  let N = stored-root colour (m .state .nodes) s t n e (R .stored) in
-  let same : N .0 ≡ x = some-same (sym (N .1) ∙ hx) in
-  let near : x .links (side s) ≡ rootOf u = ap (λ (y : Node). y .links (side s)) (sym same) ∙ N .2 in
-  let far : x .links (side (not s)) ≡ None = ap (λ (y : Node). y .links (side (not s))) (sym same) ∙ N .3 ∙ ap rootOf bare in
-  let sums : (i : ℕ) → hits i (x .links 0) + hits i (x .links 1) ≡ hits i (rootOf u) = λ i. let a : hits i (x .links (side s)) ≡ hits i (rootOf u) = ap (hits i) near in let b : hits i (x .links (side (not s))) ≡ 0 = ap (hits i) far in omega (arith, sides-sum x s i) in
-  let r36 : m₂ .regs 36 ≡ Some n = put-other (put (m .regs) 36 (Some n)) d 36 (rootOf u) (omega arith) ∙ put-same (m .regs) 36 (Some n) in
-  let r35 : m₂ .regs 35 ≡ None = put-other (put (m .regs) 36 (Some n)) d 35 (rootOf u) (omega arith) ∙ put-other (m .regs) 36 35 (Some n) (omega arith) ∙ nil in
-  let few = small out in
-  by-move _ _ d 36 m (Some n) (omega arith) (omega arith) (R .reg ∙ e)
-  (by-red _ _ 36 (omega arith) m₁ t (put-same (m .regs) 36 (Some n) ∙ sym e) (R .stored)
-  (by-child _ _ colour m₁ 36 d s t (omega arith) (omega arith) (is-node t n e) (put-same (m .regs) 36 (Some n) ∙ sym e) (R .stored)
-  (ends-then (cond out (blankOf 36 m₂) (relinkOf 36 s 35 m₂)) _ (λ _ m₃. Cleared (cond out 2 1) m₂ m₃ n x) _
-  (clear-ends out m₂ s n x (record { low = omega arith; names = r36; node = hx }) r35 (R .may) (omega arith) (λ i. omega (arith, sums i, R .counted i, inside-children i s t, hits-root i u)) far)
-  (λ _ m₃ C.
-  let S = C .spends in
-  let R₃ : Ready colour m₃ d u = record {
-    reg = S .regs d (omega arith) ∙ put-same (put (m .regs) 36 (Some n)) d (rootOf u);
-    stored = keep-else colour (m .state .nodes) (m₃ .state .nodes) n u (C .edited .else) zn (stored-child colour (m .state .nodes) s t (R .stored));
-    distinct = λ i. omega (arith, R .distinct i, of-children i s t);
-    within = λ i p. let w = R .within i (omega (arith, of-children i s t)) in omega (arith, S .made);
-    counted = λ i. omega (arith, C .named i, sums i, R .counted i, inside-children i s t, hits-root i u);
-    may = S .writable ∙ R .may } in
-  ends-all (splicedOf d (red t) m₃) _ _ (spliced-ends m₃ d (red t) u R₃ l (omega (arith, S .linked, S .numbered, S .changeLimit)))
-  (λ short m′ F. let W = F .1 in record {
-    flag = F .0;
-    y = C .y;
-    there = W .others n zn (omega (arith, S .made)) ∙ C .edited .here;
-    key = C .key; numbers = C .numbers; nil = C .nil;
-    becomes = record {
-      reg = W .reg; stored = W .stored;
-      others = λ i z v. W .others i (omega (arith, of-children i s t)) (omega (arith, S .made)) ∙ C .edited .else i (λ g. let y : rootOf t ≡ Some i = e ∙ ap Some g in omega (arith, hits-some i (rootOf t) y, hits-root i t));
-      kept = λ j p. W .kept j p ∙ S .regs j (omega arith) ∙ put-other (put (m .regs) 36 (Some n)) d j (rootOf u) (omega arith);
-      still = λ w w₁ w₂. W .still w w₁ w₂ ∙ S .regs w (omega arith) ∙ put-other (put (m .regs) 36 (Some n)) d w (rootOf u) (omega arith);
-      named = λ i. omega (arith, W .named i, C .named i, sums i, inside-children i s t, zb i, hits-root i u);
-      roots = λ i. W .roots i ∙ C .edited .roots i;
-      linked = omega (arith, W .linked, S .linked); numbered = omega (arith, W .numbered, S .numbered);
-      made = omega (arith, W .made, S .made);
-      nodeLimit = W .nodeLimit ∙ S .nodeLimit; changeLimit = W .changeLimit ∙ S .changeLimit; writable = W .writable ∙ S .writable; rest = W .rest ∙ S .rest } })))))
+    let u = child s t in
+    let m₁ = withReg m 36 (Some n) in
+    let m₂ = withReg m₁ d (rootOf u) in
+    let zn : occurrences n u ≡ 0 = omega (arith, R .distinct n, of-children n s t, hits-some n (rootOf t) e) in
+    let zb : (i : ℕ) → occurrences i (child (not s) t) ≡ 0 = λ i. ap (λ (y : Tree Bool ℕ). occurrences i y) bare in
+    let wn : n < m .made = R .within n (omega (arith, hits-root n t, hits-some n (rootOf t) e)) in
+    let N = stored-root colour (m .state .nodes) s t n e (R .stored) in
+    let same : N .0 ≡ x = some-same (sym (N .1) ∙ hx) in
+    let near : x .links (side s) ≡ rootOf u = ap (λ (y : Node). y .links (side s)) (sym same) ∙ N .2 in
+    let far : x .links (side (not s)) ≡ None = ap (λ (y : Node). y .links (side (not s))) (sym same) ∙ N .3 ∙ ap rootOf bare in
+    let sums : (i : ℕ) → hits i (x .links 0) + hits i (x .links 1) ≡ hits i (rootOf u) = λ i. let a : hits i (x .links (side s)) ≡ hits i (rootOf u) = ap (hits i) near in let b : hits i (x .links (side (not s))) ≡ 0 = ap (hits i) far in omega (arith, sides-sum x s i) in
+    let r36 : m₂ .regs 36 ≡ Some n = put-other (put (m .regs) 36 (Some n)) d 36 (rootOf u) (omega arith) ∙ put-same (m .regs) 36 (Some n) in
+    let r35 : m₂ .regs 35 ≡ None = put-other (put (m .regs) 36 (Some n)) d 35 (rootOf u) (omega arith) ∙ put-other (m .regs) 36 35 (Some n) (omega arith) ∙ nil in
+    let few = small out in
+    by-move _ _ d 36 m (Some n) (omega arith) (omega arith) (R .reg ∙ e)
+    (by-red _ _ 36 (omega arith) m₁ t (put-same (m .regs) 36 (Some n) ∙ sym e) (R .stored)
+    (by-child _ _ colour m₁ 36 d s t (omega arith) (omega arith) (is-node t n e) (put-same (m .regs) 36 (Some n) ∙ sym e) (R .stored)
+    (ends-then (cond out (blankOf 36 m₂) (relinkOf 36 s 35 m₂)) _ (λ _ m₃. Cleared (cond out 2 1) m₂ m₃ n x) _
+    (clear-ends out m₂ s n x (record { low = omega arith; names = r36; node = hx }) r35 (R .may) (omega arith) (λ i. omega (arith, sums i, R .counted i, inside-children i s t, hits-root i u)) far)
+    (λ _ m₃ C.
+    let S = C .spends in
+    let R₃ : Ready colour m₃ d u = record {
+      reg = S .regs d (omega arith) ∙ put-same (put (m .regs) 36 (Some n)) d (rootOf u);
+      stored = keep-else colour (m .state .nodes) (m₃ .state .nodes) n u (C .edited .else) zn (stored-child colour (m .state .nodes) s t (R .stored));
+      distinct = λ i. omega (arith, R .distinct i, of-children i s t);
+      within = λ i p. let w = R .within i (omega (arith, of-children i s t)) in omega (arith, S .made);
+      counted = λ i. omega (arith, C .named i, sums i, R .counted i, inside-children i s t, hits-root i u);
+      may = S .writable ∙ R .may;
+    } in
+    ends-all (splicedOf d (red t) m₃) _ _ (spliced-ends m₃ d (red t) u R₃ l (omega (arith, S .linked, S .numbered, S .changeLimit)))
+    (λ short m′ F. let W = F .1 in record {
+      flag = F .0;
+      y = C .y;
+      there = W .others n zn (omega (arith, S .made)) ∙ C .edited .here;
+      key = C .key;
+      numbers = C .numbers;
+      nil = C .nil;
+      becomes = record {
+        reg = W .reg;
+        stored = W .stored;
+        others = λ i z v. W .others i (omega (arith, of-children i s t)) (omega (arith, S .made)) ∙ C .edited .else i (λ g. let y : rootOf t ≡ Some i = e ∙ ap Some g in omega (arith, hits-some i (rootOf t) y, hits-root i t));
+        kept = λ j p. W .kept j p ∙ S .regs j (omega arith) ∙ put-other (put (m .regs) 36 (Some n)) d j (rootOf u) (omega arith);
+        still = λ w w₁ w₂. W .still w w₁ w₂ ∙ S .regs w (omega arith) ∙ put-other (put (m .regs) 36 (Some n)) d w (rootOf u) (omega arith);
+        named = λ i. omega (arith, W .named i, C .named i, sums i, inside-children i s t, zb i, hits-root i u);
+        roots = λ i. W .roots i ∙ C .edited .roots i;
+        linked = omega (arith, W .linked, S .linked);
+        numbered = omega (arith, W .numbered, S .numbered);
+        made = omega (arith, W .made, S .made);
+        nodeLimit = W .nodeLimit ∙ S .nodeLimit;
+        changeLimit = W .changeLimit ∙ S .changeLimit;
+        writable = W .writable ∙ S .writable;
+        rest = W .rest ∙ S .rest;
+      };
+    })))))

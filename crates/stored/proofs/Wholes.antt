@@ -49,21 +49,31 @@ module _ {M N P : Type 0} {f : M → ℕ} {g : N → ℕ} {h : P → ℕ} {i j k
   -- the trees in another order
   pub swapped : {m : Memory} {t : Tree M ℕ} {u : Tree N ℕ} {v : Tree P ℕ} → Trees f g h i j k m t u v → Trees g f h j i k m u t v
   swapped W = record {
-    first = W .second; second = W .first; third = W .third;
-    storedFirst = W .storedSecond; storedSecond = W .storedFirst; storedThird = W .storedThird;
+    first = W .second;
+    second = W .first;
+    third = W .third;
+    storedFirst = W .storedSecond;
+    storedSecond = W .storedFirst;
+    storedThird = W .storedThird;
     distinct = λ n. omega (arith, W .distinct n);
     within = λ n p. W .within n (omega arith);
     named = λ n. omega (arith, W .named n);
-    bare = λ n x s p z. W .bare n x s p (omega arith) }
+    bare = λ n x s p z. W .bare n x s p (omega arith);
+  }
 
   pub turned : {m : Memory} {t : Tree M ℕ} {u : Tree N ℕ} {v : Tree P ℕ} → Trees f g h i j k m t u v → Trees h f g k i j m v t u
   turned W = record {
-    first = W .third; second = W .first; third = W .second;
-    storedFirst = W .storedThird; storedSecond = W .storedFirst; storedThird = W .storedSecond;
+    first = W .third;
+    second = W .first;
+    third = W .second;
+    storedFirst = W .storedThird;
+    storedSecond = W .storedFirst;
+    storedThird = W .storedSecond;
     distinct = λ n. omega (arith, W .distinct n);
     within = λ n p. W .within n (omega arith);
     named = λ n. omega (arith, W .named n);
-    bare = λ n x s p z. W .bare n x s p (omega arith) }
+    bare = λ n x s p z. W .bare n x s p (omega arith);
+  }
 
   -- the first tree may be changed under a register that holds its root
   pub ready-first : {m : Memory} {t : Tree M ℕ} {u : Tree N ℕ} {v : Tree P ℕ} → Trees f g h i j k m t u v → (m₁ : Memory) (d : ℕ) → m₁ .state ≡ m .state → m₁ .made ≡ m .made → m₁ .regs d ≡ rootOf t → m₁ .writable ≡ true → Ready f m₁ d t
@@ -73,7 +83,8 @@ module _ {M N P : Type 0} {f : M → ℕ} {g : N → ℕ} {h : P → ℕ} {i j k
     distinct = λ n. omega (arith, W .distinct n);
     within = λ n p. let w = W .within n (omega arith) in omega arith;
     counted = λ n. let w : m₁ .state .names n ≡ m .state .names n = ap (λ s. s .names n) e in omega (arith, W .named n, hits-root n t);
-    may = ew }
+    may = ew;
+  }
 
   pub once-first : {m : Memory} {t : Tree M ℕ} {u : Tree N ℕ} {v : Tree P ℕ} → Trees f g h i j k m t u v → NamedOnce m t
   once-first W n p = omega (arith, W .named n, W .distinct n)
@@ -93,9 +104,10 @@ module _ {M N P : Type 0} {f : M → ℕ} {g : N → ℕ} {h : P → ℕ} {i j k
     distinct = V .distinct;
     within = λ n p. let w = V .within n p in omega (arith, S .spends .made);
     named = λ n.
-      let e : hits n (m₁ .state .roots i) ≡ hits n (rootOf t) = ap (hits n) (V .roots i ∙ W .first) in
-      omega (arith, S .named n, V .named n, hits-root n t′);
-    bare = λ n x s p z e. V .bare n x s (omega (arith, S .spends .made)) z (sym (S .nodes n) ∙ e) }
+        let e : hits n (m₁ .state .roots i) ≡ hits n (rootOf t) = ap (hits n) (V .roots i ∙ W .first) in
+        omega (arith, S .named n, V .named n, hits-root n t′);
+    bare = λ n x s p z e. V .bare n x s (omega (arith, S .spends .made)) z (sym (S .nodes n) ∙ e);
+  }
 
 -- nothing but registers
 pub untouched : (m : Memory) → Untouched m m
@@ -126,57 +138,58 @@ module _ {M : Type 0} where
   size-sum : (n : ℕ) (t : Tree M ℕ) → ((i : ℕ) → 1 ≤ occurrences i t → i < n) → size t ≤ sumTo n (λ i. occurrences i t)
   size-sum n leaf h = omega arith
   size-sum n (node j c e l r) h =
-    let a = size-sum n l (λ i p. h i (omega arith)) in
-    let b = size-sum n r (λ i p. h i (omega arith)) in
-    let d = sum-point n j (h j (omega (arith, self j))) in
-    let x = sum-plus n (λ i. cond {A = ℕ} (eqb i j) 1 0 + occurrences i l) (λ i. occurrences i r) in
-    let y = sum-plus n (λ i. cond {A = ℕ} (eqb i j) 1 0) (λ i. occurrences i l) in
-    omega arith
+      let a = size-sum n l (λ i p. h i (omega arith)) in
+      let b = size-sum n r (λ i p. h i (omega arith)) in
+      let d = sum-point n j (h j (omega (arith, self j))) in
+      let x = sum-plus n (λ i. cond {A = ℕ} (eqb i j) 1 0 + occurrences i l) (λ i. occurrences i r) in
+      let y = sum-plus n (λ i. cond {A = ℕ} (eqb i j) 1 0) (λ i. occurrences i l) in
+      omega arith
 
 pub size-made : {M N P : Type 0} {f : M → ℕ} {g : N → ℕ} {h : P → ℕ} {i j k : ℕ} {m : Memory} {t : Tree M ℕ} {u : Tree N ℕ} {v : Tree P ℕ} → Trees f g h i j k m t u v → size t + size u + size v ≤ m .made
 size-made {m = m} {t = t} {u = u} {v = v} W =
-  let n = m .made in
-  let x = size-sum n t (λ i p. W .within i (omega arith)) in
-  let y = size-sum n u (λ i p. W .within i (omega arith)) in
-  let z = size-sum n v (λ i p. W .within i (omega arith)) in
-  let p = sum-plus n (λ i. occurrences i t + occurrences i u) (λ i. occurrences i v) in
-  let q = sum-plus n (λ i. occurrences i t) (λ i. occurrences i u) in
-  let w = sum-ones n (λ i. occurrences i t + occurrences i u + occurrences i v) (W .distinct) in
-  omega arith
+    let n = m .made in
+    let x = size-sum n t (λ i p. W .within i (omega arith)) in
+    let y = size-sum n u (λ i p. W .within i (omega arith)) in
+    let z = size-sum n v (λ i p. W .within i (omega arith)) in
+    let p = sum-plus n (λ i. occurrences i t + occurrences i u) (λ i. occurrences i v) in
+    let q = sum-plus n (λ i. occurrences i t) (λ i. occurrences i u) in
+    let w = sum-ones n (λ i. occurrences i t + occurrences i u + occurrences i v) (W .distinct) in
+    omega arith
 
 module _ {M N P : Type 0} {f : M → ℕ} {g : N → ℕ} {h : P → ℕ} {i j k : ℕ} where
   -- the new first tree's root is saved where it differs
   pub save-ends : {m m₁ : Memory} {t t′ : Tree M ℕ} {u : Tree N ℕ} {v : Tree P ℕ} → i < 3 → (i ≡ j → ⊥) → (i ≡ k → ⊥) → Trees f g h i j k m t u v → Prepared f m m₁ t t′ u v → m₁ .regs 0 ≡ rootOf t′ → Free m₁
-    → Ends (resaveOf i 0 m₁) (λ _ m₂. Trees f g h i j k m₂ t′ u v × Spends 1 0 m₁ m₂)
+      → Ends (resaveOf i 0 m₁) (λ _ m₂. Trees f g h i j k m₂ t′ u v × Spends 1 0 m₁ m₂)
   save-ends {m = m} {m₁ = m₁} {t = t} {t′ = t′} {u = u} {v = v} l ij ik W V e F =
-    let old : (n : ℕ) → hits n (m₁ .state .roots i) ≡ hits n (rootOf t) = λ n. ap (hits n) (V .roots i ∙ W .first) in
-    ends-all (resaveOf i 0 m₁) _ _
-    (resave-ends m₁ i 0 (rootOf t′) l (omega arith) (λ q. omega arith) F e
+      let old : (n : ℕ) → hits n (m₁ .state .roots i) ≡ hits n (rootOf t) = λ n. ap (hits n) (V .roots i ∙ W .first) in
+      ends-all (resaveOf i 0 m₁) _ _
+      (resave-ends m₁ i 0 (rootOf t′) l (omega arith) (λ q. omega arith) F e
       (λ n. omega (arith, old n, V .named n))
       (λ n q. omega (arith, old n, V .named n, V .distinct n, hits-root n t′, hits-some n (rootOf t′) q)))
-    (λ _ m₂ S. (settled ij ik W V S, S .spends))
+      (λ _ m₂ S. (settled ij ik W V S, S .spends))
 
   -- the first tree has become t′ under register 0: of its nodes some may be gone, and the next ones may be new
   pub prepared : {m m₁ m₂ : Memory} {t t′ : Tree M ℕ} {u : Tree N ℕ} {v : Tree P ℕ} {c : Cost} → Trees f g h i j k m t u v → m₁ .state ≡ m .state → m₁ .made ≡ m .made → Becomes f m₁ m₂ 0 t t′ c
-    → ((n : ℕ) → n < m .made → occurrences n t′ ≤ occurrences n t)
-    → ((n : ℕ) → m .made ≤ n → occurrences n t′ ≤ 1)
-    → ((n : ℕ) → 1 ≤ occurrences n t′ → n < m₂ .made)
-    → ((n : ℕ) → m .made ≤ n → n < m₂ .made → 1 ≤ occurrences n t′)
-    → ((n : ℕ) (x : Node) (s : Bool) → n < m .made → 1 ≤ occurrences n t → occurrences n t′ ≡ 0 → m₂ .state .nodes n ≡ Some x → x .links (side s) ≡ None)
-    → Prepared f m m₂ t t′ u v
+      → ((n : ℕ) → n < m .made → occurrences n t′ ≤ occurrences n t)
+      → ((n : ℕ) → m .made ≤ n → occurrences n t′ ≤ 1)
+      → ((n : ℕ) → 1 ≤ occurrences n t′ → n < m₂ .made)
+      → ((n : ℕ) → m .made ≤ n → n < m₂ .made → 1 ≤ occurrences n t′)
+      → ((n : ℕ) (x : Node) (s : Bool) → n < m .made → 1 ≤ occurrences n t → occurrences n t′ ≡ 0 → m₂ .state .nodes n ≡ Some x → x .links (side s) ≡ None)
+      → Prepared f m m₂ t t′ u v
   prepared {m = m} {m₁ = m₁} {m₂ = m₂} {t = t} {t′ = t′} {u = u} {v = v} W e em V few one made new gone =
-    let nodes : (n : ℕ) → m₁ .state .nodes n ≡ m .state .nodes n = λ n. ap (λ s. s .nodes n) e in
-    let names : (n : ℕ) → m₁ .state .names n ≡ m .state .names n = λ n. ap (λ s. s .names n) e in
-    let high : (n : ℕ) → m .made ≤ n → occurrences n t + occurrences n u + occurrences n v ≡ 0 = λ n p. none-of (occurrences n t + occurrences n u + occurrences n v) (λ q. let w = W .within n q in omega arith) in
-    record {
-      stored = V .stored;
-      others = λ n p. V .others n (omega (arith, W .distinct n)) (let w = W .within n (omega arith) in omega arith) ∙ nodes n;
-      roots = λ r. V .roots r ∙ ap (λ s. s .roots r) e;
-      distinct = λ n. by-less (m .made) n (λ p. omega (arith, W .distinct n, few n p)) (λ p. omega (arith, high n p, one n p));
-      within = λ n p. by-less (m .made) n (λ q. omega (arith, V .made)) (λ q. made n (omega (arith, high n q)));
-      named = λ n. omega (arith, V .named n, names n, W .named n, hits-root n t);
-      bare = λ n x s p z q. by-less (m .made) n
-        (λ w. by-zero (occurrences n t)
-          (λ o. W .bare n x s w (omega arith) (sym (nodes n) ∙ sym (V .others n o (omega arith)) ∙ q))
-          (λ o. gone n x s w o (omega arith) q))
-        (λ w. let y = new n w p in absurd (omega arith)) }
+      let nodes : (n : ℕ) → m₁ .state .nodes n ≡ m .state .nodes n = λ n. ap (λ s. s .nodes n) e in
+      let names : (n : ℕ) → m₁ .state .names n ≡ m .state .names n = λ n. ap (λ s. s .names n) e in
+      let high : (n : ℕ) → m .made ≤ n → occurrences n t + occurrences n u + occurrences n v ≡ 0 = λ n p. none-of (occurrences n t + occurrences n u + occurrences n v) (λ q. let w = W .within n q in omega arith) in
+      record {
+        stored = V .stored;
+        others = λ n p. V .others n (omega (arith, W .distinct n)) (let w = W .within n (omega arith) in omega arith) ∙ nodes n;
+        roots = λ r. V .roots r ∙ ap (λ s. s .roots r) e;
+        distinct = λ n. by-less (m .made) n (λ p. omega (arith, W .distinct n, few n p)) (λ p. omega (arith, high n p, one n p));
+        within = λ n p. by-less (m .made) n (λ q. omega (arith, V .made)) (λ q. made n (omega (arith, high n q)));
+        named = λ n. omega (arith, V .named n, names n, W .named n, hits-root n t);
+        bare = λ n x s p z q. by-less (m .made) n
+            (λ w. by-zero (occurrences n t)
+            (λ o. W .bare n x s w (omega arith) (sym (nodes n) ∙ sym (V .others n o (omega arith)) ∙ q))
+            (λ o. gone n x s w o (omega arith) q))
+            (λ w. let y = new n w p in absurd (omega arith));
+      }

@@ -32,7 +32,7 @@ module _ {K : Type 0} where
   marked-red leaf = refl
   marked-red (node n d e l r) = refl
 
-none-is : {A : Type 0} (x : Option A) → isSome x ≡ false → x ≡ None
+pub none-is : {A : Type 0} (x : Option A) → isSome x ≡ false → x ≡ None
 none-is None h = refl
 none-is (Some a) h = cc
 
