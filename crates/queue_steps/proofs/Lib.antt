@@ -1,0 +1,2 @@
+pub mod Hangs
+pub mod Merges
