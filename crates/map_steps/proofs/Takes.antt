@@ -16,13 +16,14 @@ use Rattle.memory.specs.Effects.{Ends, Holds, Free}
 use Rattle.memory.proofs.Numbers.{put-same, put-other, hits-some, some-same}
 use Rattle.memory.proofs.By.{ends-then, ends-all, ends-cond, ends-last, by-link, by-move, by-nil, by-key}
 use Rattle.stored.specs.Stored.{side, colour, NodeAt, Stored, inside, NamedOnce}
-use Rattle.stored.specs.Writes.{relinkOf, renumberOf, rotateOf, Spends, Edited, Relinked, Renumbered}
+use Rattle.stored.specs.Writes.{relinkOf, renumberOf, rotateOf, blankOf, Spends, Edited, Relinked, Renumbered, Cleared}
+use Rattle.stored.proofs.Blanks.{blank-ends}
 use Rattle.stored.specs.Becomes.{Cost, cost, nothing, plus, writes, Ready, Shifts, Becomes}
 use Rattle.stored.proofs.Parts.{self, side-low, no-node, no-test, hits-root, of-children, inside-children, of-withChild, root-withChild, node-withChild, child-withChild, other-withChild, root-withMark, of-withMark, node-withMark, root-of, is-node, parent-node, stored-child, stored-root, keep, keep-else}
 use Rattle.stored.proofs.Writing.{from-linked, relink-ends, renumber-ends}
 use Rattle.stored.proofs.Changes.{ready-child, ready-root, stay, ready-scratch, from-scratch, both, in-turn, under, ready-next, ready-after, once-next, once-after, once-child, by-relink, by-mark, by-mark-child}
 use Rattle.map_steps.specs.Insert.{redOf}
-use Rattle.map_steps.specs.Remove.{shortFixOf, stepUpOf, splicedOf, blankOf, takeOf, firstOf, replaceOf, swapOutOf, rootOutOf, belowOf, onWay, removeOf}
+use Rattle.map_steps.specs.Remove.{shortFixOf, stepUpOf, splicedOf, takeOf, firstOf, replaceOf, swapOutOf, rootOutOf, belowOf, onWay, removeOf}
 use Rattle.map_steps.proofs.Reds.{red-node, by-red, by-child}
 use Rattle.map_steps.proofs.Siblings.{siblingCost}
 use Rattle.map_steps.proofs.Shorts.{cost-eq, recost, shortCost, short-ends}
@@ -55,41 +56,6 @@ spliced-ends m d true u R l q = subst (λ (y : Shrunk ℕ). (false ≡ y .short)
 spliced-ends m d false u R l q = by-red _ _ d (omega arith) m u (R .reg) (R .stored) (ends-cond (red u) _ _ _
     (λ h. by-mark colour _ _ m d (omega arith) false u (red-node u h) R q (λ m′ G V. rw h (subst (λ (y : Shrunk ℕ). (false ≡ y .short) × Becomes colour m m′ d u (y .tree) (cost 0 1 0)) (sym (spliced-mark u h)) (refl, V))))
     (λ h. rw h (subst (λ (y : Shrunk ℕ). (true ≡ y .short) × Becomes colour m m d u (y .tree) nothing) (sym (spliced-black u h)) (refl, stay colour m d u u R refl))))
-
--- the node n, which was x, has no links, after at most so many writes
-pub record Cleared (links : ℕ) (m m′ : Memory) (n : ℕ) (x : Node) : Type 0 where
-  pub y : Node
-  pub edited : Edited m m′ n y
-  pub spends : Spends links 0 m m′
-  pub key : y .key ≡ x .key
-  pub numbers : (i : ℕ) → y .numbers i ≡ x .numbers i
-  pub nil : (s : Bool) → y .links (side s) ≡ None
-  pub named : (i : ℕ) → m′ .state .names i + hits i (x .links 0) + hits i (x .links 1) ≡ m .state .names i
-
-pub blank-ends : (m : Memory) (r n : ℕ) (x : Node) → Holds m r n x → m .regs 35 ≡ None → m .writable ≡ true → changed m + 2 ≤ m .changeLimit → ((i : ℕ) → hits i (x .links 0) + hits i (x .links 1) ≤ m .state .names i)
-    → Ends (blankOf r m) (λ _ m′. Cleared 2 m m′ n x)
-unfolding blankOf
-blank-ends m r n x H nil may q true-old =
-    by-link _ _ r 0 35 n x m None H (omega arith) (omega arith) (record { writable = may; left = omega arith }) nil (λ i. omega (arith, true-old i)) (λ i g. no-node g) (λ m₁ L₁.
-    let C₁ = L₁ .change in
-    let x₁ = withLink 0 None x in
-    ends-last (linkOf r 1 35 m₁) _ (by-link _ _ r 1 35 n x₁ m₁ None (record { low = H .low; names = C₁ .regs r ∙ H .names; node = L₁ .wrote .here }) (omega arith) (omega arith)
-    (record { writable = C₁ .writable ∙ may; left = omega (arith, C₁ .linked, C₁ .numbered, C₁ .changeLimit) }) (C₁ .regs 35 ∙ nil)
-    (λ i. omega (arith, L₁ .named i, true-old i)) (λ i g. no-node g) (λ m₂ L₂.
-    let C₂ = L₂ .change in
-    record {
-      y = withLink 1 None x₁;
-      edited = record { here = L₂ .wrote .here; else = λ j ne. L₂ .wrote .else j ne ∙ L₁ .wrote .else j ne; roots = λ i. L₂ .wrote .roots i ∙ L₁ .wrote .roots i };
-      spends = record { regs = λ j _. C₂ .regs j ∙ C₁ .regs j; made = C₂ .made ∙ C₁ .made; linked = omega (arith, C₂ .linked, C₁ .linked); numbered = omega (arith, C₂ .numbered, C₁ .numbered); nodeLimit = C₂ .nodeLimit ∙ C₁ .nodeLimit; changeLimit = C₂ .changeLimit ∙ C₁ .changeLimit; writable = C₂ .writable ∙ C₁ .writable; rest = C₂ .rest ∙ C₁ .rest };
-      key = refl;
-      numbers = λ i. refl;
-      nil = both-nil x;
-      named = λ i. omega (arith, L₂ .named i, L₁ .named i);
-    })))
-  where
-    both-nil : (x : Node) (s : Bool) → withLink 1 None (withLink 0 None x) .links (side s) ≡ None
-    both-nil x true = refl
-    both-nil x false = refl
 
 -- one link is nil already, and the other is written
 one-link : (m m′ : Memory) (n : ℕ) (x : Node) (s : Bool) → x .links (side (not s)) ≡ None → Relinked m m′ n x s None → Cleared 1 m m′ n x

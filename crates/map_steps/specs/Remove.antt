@@ -7,7 +7,6 @@
 --   shortFixOf         a side that is short
 --   stepUpOf           one level of a removal: the child is linked again, and its side put right
 --   splicedOf          a node is gone, and what was below it stands in its place
---   blankOf            both links of a node taken out become nil, even where they are
 --   takeOf             a node with one child at most leaves its place, into register 36
 --   firstOf            the first node of a tree leaves its place, into register 36
 --   replaceOf          the node of register 36 takes the place of another
@@ -23,7 +22,7 @@ use Rattle.refusals.specs.declared.kinds.MemoryRefusal.the-variants.{OutOfRange
 use Rattle.memory.specs.Memory.{Memory}
 use Rattle.memory.specs.Steps.{Done, done, no, then, loadOf, followOf, moveOf, keyOf, nilOf, linkOf}
 use Rattle.stored.specs.Stored.{side, colour}
-use Rattle.stored.specs.Writes.{relinkOf, renumberOf, resaveOf, rotateOf}
+use Rattle.stored.specs.Writes.{relinkOf, renumberOf, resaveOf, rotateOf, blankOf}
 use Rattle.map_steps.specs.Insert.{redOf}
 
 -- the sibling is in register 26, its near child, which is red, in register 28; its far child goes into register 27
@@ -85,9 +84,6 @@ stepUpOf d s short m = then (relinkOf d s (suc d) m) (λ _ m1. cond short (short
 -- a node of the colour c is gone
 unfoldable pub splicedOf : ℕ → Bool → Memory → Done Bool
 splicedOf d c m = cond c (done false m) (then (redOf d m) (λ r m1. cond r (then (renumberOf 1 d 0 m1) (λ _ m2. done false m2)) (done true m1)))
-
-unfoldable pub blankOf : ℕ → Memory → Done Unit
-blankOf r m = then (linkOf r 0 35 m) (λ _ m1. linkOf r 1 35 m1)
 
 -- The node under d has one child at most, on the side s, which takes its place. Where the node is taken out for good, both its links
 -- are written; where it is to stand elsewhere, only the one that leads to the child.

@@ -1,5 +1,6 @@
 pub mod Parts
 pub mod Writing
+pub mod Blanks
 pub mod Idle
 pub mod Nodes
 pub mod Changes

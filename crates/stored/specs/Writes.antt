@@ -2,14 +2,16 @@
 --
 --   relinkOf, renumberOf, resaveOf   the steps that write a link, a number or a root where it differs
 --   rotateOf                         the steps that make a child the root of the tree under a register
+--   blankOf                          both links of a node taken out become nil, even where they are
 --   Edited                           one node has become another, by at most so many writes
 --   Relinked, Renumbered, Resaved    a link, a number, a root holds what it should
+--   Cleared                          a node has no links
 use mathlib.Core.Path.{_≡_}
 use mathlib.Core.Bool.{Bool, true, false, cond, not}
 use Prim.Native.Nat.{ℕ, _+_, _≤_}
 use lib.Dec.{eqb}
 use Rattle.std.specs.declared.option.Option.{Option}
-use Rattle.std.specs.declared.option.Option.the-variants.{Some}
+use Rattle.std.specs.declared.option.Option.the-variants.{Some, None}
 use Rattle.memory.specs.Memory.{Node, Memory, hits}
 use Rattle.memory.specs.Steps.{Done, done, then, loadOf, followOf, moveOf, numberOf, sameOf, saveOf, linkOf, setNumberOf}
 use Rattle.stored.specs.Stored.{side}
@@ -40,6 +42,10 @@ rotateOf d s m =
     then (linkOf d (side s) 31 m2) (λ _ m3.
     then (linkOf 30 (side (not s)) d m3) (λ _ m4.
     moveOf 30 d m4))))
+
+-- register 35 is nil
+unfoldable pub blankOf : ℕ → Memory → Done Unit
+blankOf r m = then (linkOf r 0 35 m) (λ _ m1. linkOf r 1 35 m1)
 
 -- the same memory but for its working state and register 32, after at most so many link and root writes and number writes
 pub record Spends (links numbers : ℕ) (m m′ : Memory) : Type 0 where
@@ -87,3 +93,13 @@ pub record Resaved (m m′ : Memory) (i : ℕ) (v : Option ℕ) : Type 0 where
   pub nodes : (k : ℕ) → m′ .state .nodes k ≡ m .state .nodes k
   pub spends : Spends 1 0 m m′
   pub named : (k : ℕ) → m′ .state .names k + hits k (m .state .roots i) ≡ m .state .names k + hits k v
+
+-- the node n, which was x, has no links, after at most so many writes
+pub record Cleared (links : ℕ) (m m′ : Memory) (n : ℕ) (x : Node) : Type 0 where
+  pub y : Node
+  pub edited : Edited m m′ n y
+  pub spends : Spends links 0 m m′
+  pub key : y .key ≡ x .key
+  pub numbers : (i : ℕ) → y .numbers i ≡ x .numbers i
+  pub nil : (s : Bool) → y .links (side s) ≡ None
+  pub named : (i : ℕ) → m′ .state .names i + hits i (x .links 0) + hits i (x .links 1) ≡ m .state .names i
