@@ -1,2 +1,5 @@
 pub mod Hangs
 pub mod Merges
+pub mod Pushes
+pub mod Pops
+pub mod Calls
