@@ -56,31 +56,31 @@ names₀ l r x i = hits i (rootOf l) + hits i (rootOf r) + inside i l + inside i
 
 -- the node n under d, its left child l as it was, and under the next register what is to hang beside it
 pub hang-ends : (m : Memory) (d n c : ℕ) (e : Entry ℕ) (l r x : Tree ℕ ℕ)
-  → m .writable ≡ true → m .regs d ≡ Some n → m .regs (suc d) ≡ rootOf x → suc d < 26 → rank l ≤ 12 → rank x ≤ 12
-  → NodeAt asRank (m .state .nodes) false n c e l r → Stored asRank (m .state .nodes) l → Stored asRank (m .state .nodes) x
-  → ((i : ℕ) → foot n l x i ≤ 1) → n < m .made → ((i : ℕ) → names₀ l r x i ≤ m .state .names i)
-  → ((i : ℕ) → rootOf x ≡ Some i → m .state .names i ≤ 1 + hits i (rootOf r)) → ((i : ℕ) → rootOf x ≡ Some i → m .state .names i ≤ 1 + hits i (rootOf l)) → ((i : ℕ) → rootOf l ≡ Some i → m .state .names i ≤ 1 + hits i (rootOf l) + hits i (rootOf r))
-  → changed m + 3 ≤ m .changeLimit
-  → Ends (hangOf d m) (λ _ m′. Shifts asRank m m′ d (foot n l x) (names₀ l r x) (joined n e l x) (cost 2 1 0))
+    → m .writable ≡ true → m .regs d ≡ Some n → m .regs (suc d) ≡ rootOf x → suc d < 26 → rank l ≤ 12 → rank x ≤ 12
+    → NodeAt asRank (m .state .nodes) false n c e l r → Stored asRank (m .state .nodes) l → Stored asRank (m .state .nodes) x
+    → ((i : ℕ) → foot n l x i ≤ 1) → n < m .made → ((i : ℕ) → names₀ l r x i ≤ m .state .names i)
+    → ((i : ℕ) → rootOf x ≡ Some i → m .state .names i ≤ 1 + hits i (rootOf r)) → ((i : ℕ) → rootOf x ≡ Some i → m .state .names i ≤ 1 + hits i (rootOf l)) → ((i : ℕ) → rootOf l ≡ Some i → m .state .names i ≤ 1 + hits i (rootOf l) + hits i (rootOf r))
+    → changed m + 3 ≤ m .changeLimit
+    → Ends (hangOf d m) (λ _ m′. Shifts asRank m m′ d (foot n l x) (names₀ l r x) (joined n e l x) (cost 2 1 0))
 unfolding hangOf
 hang-ends m d n c e l r x ok rd rx dl kl kx N hl hx dis wn count f₁ f₂ f₃ sp =
-  let m₁ = withReg m 38 (rootOf l) in
-  let e₁ : m₁ .regs (suc d) ≡ rootOf x = put-other (m .regs) 38 (suc d) (rootOf l) (omega arith) ∙ rx in
-  let d₁ : m₁ .regs d ≡ Some n = put-other (m .regs) 38 d (rootOf l) (omega arith) ∙ rd in
-  let dn = dis n in
-  let sn = self n in
-  let zl : occurrences n l ≡ 0 = omega arith in
-  let zx : occurrences n x ≡ 0 = omega arith in
-  let apart : (i : ℕ) → foot n l x i ≡ 0 → n ≡ i → ⊥ = λ i z q. (let w : cond {A = ℕ} (eqb i n) 1 0 ≡ 1 = ap (λ (j : ℕ). cond {A = ℕ} (eqb j n) 1 0) (sym q) ∙ sn in omega arith) in
-  let hL : (i : ℕ) → hits i (N .it .links (side false)) ≡ hits i (rootOf l) = λ i. ap (hits i) (N .near) in
-  let hR : (i : ℕ) → hits i (N .it .links (side true)) ≡ hits i (rootOf r) = λ i. ap (hits i) (N .far) in
-  by-follow _ _ d 0 38 n (N .it) m (rootOf l) (record { low = omega arith; names = rd; node = N .there }) (omega arith) (omega arith) (N .near)
-  (by-rank _ _ 38 (omega arith) m₁ l (put-same (m .regs) 38 (rootOf l)) hl (by-rank _ _ (suc d) (omega arith) m₁ x e₁ hx
-  (ends-cond (leb (rank x) (rank l)) _ _ _
-  (λ t.
+    let m₁ = withReg m 38 (rootOf l) in
+    let e₁ : m₁ .regs (suc d) ≡ rootOf x = put-other (m .regs) 38 (suc d) (rootOf l) (omega arith) ∙ rx in
+    let d₁ : m₁ .regs d ≡ Some n = put-other (m .regs) 38 d (rootOf l) (omega arith) ∙ rd in
+    let dn = dis n in
+    let sn = self n in
+    let zl : occurrences n l ≡ 0 = omega arith in
+    let zx : occurrences n x ≡ 0 = omega arith in
+    let apart : (i : ℕ) → foot n l x i ≡ 0 → n ≡ i → ⊥ = λ i z q. (let w : cond {A = ℕ} (eqb i n) 1 0 ≡ 1 = ap (λ (j : ℕ). cond {A = ℕ} (eqb j n) 1 0) (sym q) ∙ sn in omega arith) in
+    let hL : (i : ℕ) → hits i (N .it .links (side false)) ≡ hits i (rootOf l) = λ i. ap (hits i) (N .near) in
+    let hR : (i : ℕ) → hits i (N .it .links (side true)) ≡ hits i (rootOf r) = λ i. ap (hits i) (N .far) in
+    by-follow _ _ d 0 38 n (N .it) m (rootOf l) (record { low = omega arith; names = rd; node = N .there }) (omega arith) (omega arith) (N .near)
+    (by-rank _ _ 38 (omega arith) m₁ l (put-same (m .regs) 38 (rootOf l)) hl (by-rank _ _ (suc d) (omega arith) m₁ x e₁ hx
+    (ends-cond (leb (rank x) (rank l)) _ _ _
+    (λ t.
     ends-then (relinkOf d true (suc d) m₁) _ (λ _ m₂. Relinked m₁ m₂ n (N .it) true (rootOf x)) _
     (relink-ends m₁ d true (suc d) n (N .it) (rootOf x) (record { low = omega arith; names = d₁; node = N .there }) (omega arith) (omega arith) (omega arith) (record { writable = ok; left = omega arith }) e₁
-      (λ i. omega (arith, hR i, count i)) (λ i q. omega (arith, hR i, f₁ i q)))
+    (λ i. omega (arith, hR i, count i)) (λ i q. omega (arith, hR i, f₁ i q)))
     (λ _ m₂ E₂.
     let S₂ = E₂ .spends in
     ends-all (rankedOf d (rank x) m₂) _ _
@@ -91,28 +91,37 @@ hang-ends m d n c e l r x ok rd rx dl kl kx N hl hx dis wn count f₁ f₂ f₃ 
     subst (λ (u : Tree ℕ ℕ). Shifts asRank m m₃ d (foot n l x) (names₀ l r x) u (cost 2 1 0)) (sym (joined-left n e l x t))
     (record {
       reg = S₃ .regs d (omega arith) ∙ S₂ .regs d (omega arith) ∙ d₁;
-      stored = (record { it = E₃ .y; there = E₃ .edited .here; key = E₃ .key ∙ E₂ .key ∙ N .key; value = E₃ .others 0 (λ z. omega arith) ∙ E₂ .numbers 0 ∙ N .value; mark = E₃ .number; near = E₃ .links 0 ∙ E₂ .far ∙ N .near; far = E₃ .links 1 ∙ E₂ .near }
-        , keep-else asRank (m .state .nodes) (m₃ .state .nodes) n l else zl hl, keep-else asRank (m .state .nodes) (m₃ .state .nodes) n x else zx hx);
+      stored = (
+        record { it = E₃ .y; there = E₃ .edited .here; key = E₃ .key ∙ E₂ .key ∙ N .key; value = E₃ .others 0 (λ z. omega arith) ∙ E₂ .numbers 0 ∙ N .value; mark = E₃ .number; near = E₃ .links 0 ∙ E₂ .far ∙ N .near; far = E₃ .links 1 ∙ E₂ .near },
+        keep-else asRank (m .state .nodes) (m₃ .state .nodes) n l else zl hl,
+        keep-else asRank (m .state .nodes) (m₃ .state .nodes) n x else zx hx,
+      );
       others = λ i z v. else i (apart i z);
       kept = λ j p. S₃ .regs j (omega arith) ∙ S₂ .regs j (omega arith) ∙ put-other (m .regs) 38 j (rootOf l) (omega arith);
       still = λ w w₁ w₂. S₃ .regs w (omega arith) ∙ S₂ .regs w (omega arith) ∙ put-other (m .regs) 38 w (rootOf l) (omega arith);
       named = λ i. omega (arith, E₃ .named i, E₂ .named i, hR i);
       roots = λ i. E₃ .edited .roots i ∙ E₂ .edited .roots i;
-      linked = omega (arith, S₃ .linked, S₂ .linked); numbered = omega (arith, S₃ .numbered, S₂ .numbered); made = omega (arith, S₃ .made, S₂ .made);
-      nodeLimit = S₃ .nodeLimit ∙ S₂ .nodeLimit; changeLimit = S₃ .changeLimit ∙ S₂ .changeLimit; writable = S₃ .writable ∙ S₂ .writable; rest = S₃ .rest ∙ S₂ .rest }))))
-  (λ t.
+      linked = omega (arith, S₃ .linked, S₂ .linked);
+      numbered = omega (arith, S₃ .numbered, S₂ .numbered);
+      made = omega (arith, S₃ .made, S₂ .made);
+      nodeLimit = S₃ .nodeLimit ∙ S₂ .nodeLimit;
+      changeLimit = S₃ .changeLimit ∙ S₂ .changeLimit;
+      writable = S₃ .writable ∙ S₂ .writable;
+      rest = S₃ .rest ∙ S₂ .rest;
+    }))))
+    (λ t.
     ends-then (relinkOf d false (suc d) m₁) _ (λ _ m₂. Relinked m₁ m₂ n (N .it) false (rootOf x)) _
     (relink-ends m₁ d false (suc d) n (N .it) (rootOf x) (record { low = omega arith; names = d₁; node = N .there }) (omega arith) (omega arith) (omega arith) (record { writable = ok; left = omega arith }) e₁
-      (λ i. omega (arith, hL i, count i)) (λ i q. omega (arith, hL i, f₂ i q)))
+    (λ i. omega (arith, hL i, count i)) (λ i q. omega (arith, hL i, f₂ i q)))
     (λ _ m₂ E₂.
     let S₂ = E₂ .spends in
     let n₂ : (i : ℕ) → m₂ .state .names i + hits i (rootOf l) ≡ m .state .names i + hits i (rootOf x) = λ i. omega (arith, E₂ .named i, hL i) in
     let hR₂ : (i : ℕ) → hits i (E₂ .y .links (side true)) ≡ hits i (rootOf r) = λ i. ap (hits i) (E₂ .far ∙ N .far) in
     ends-then (relinkOf d true 38 m₂) _ (λ _ m₃. Relinked m₂ m₃ n (E₂ .y) true (rootOf l)) _
     (relink-ends m₂ d true 38 n (E₂ .y) (rootOf l) (record { low = omega arith; names = S₂ .regs d (omega arith) ∙ d₁; node = E₂ .edited .here }) (omega arith) (omega arith) (omega arith)
-      (record { writable = S₂ .writable ∙ ok; left = omega (arith, S₂ .linked, S₂ .numbered, S₂ .changeLimit) }) (S₂ .regs 38 (omega arith) ∙ put-same (m .regs) 38 (rootOf l))
-      (λ i. omega (arith, hR₂ i, n₂ i, count i))
-      (λ i q. let b = f₃ i q in let h = hits-some i (rootOf l) q in let g = dis i in omega (arith, hR₂ i, n₂ i, hits-root i l, hits-root i x)))
+    (record { writable = S₂ .writable ∙ ok; left = omega (arith, S₂ .linked, S₂ .numbered, S₂ .changeLimit) }) (S₂ .regs 38 (omega arith) ∙ put-same (m .regs) 38 (rootOf l))
+    (λ i. omega (arith, hR₂ i, n₂ i, count i))
+    (λ i q. let b = f₃ i q in let h = hits-some i (rootOf l) q in let g = dis i in omega (arith, hR₂ i, n₂ i, hits-root i l, hits-root i x)))
     (λ _ m₃ E₃.
     let S₃ = E₃ .spends in
     ends-all (rankedOf d (rank l) m₃) _ _
@@ -123,12 +132,21 @@ hang-ends m d n c e l r x ok rd rx dl kl kx N hl hx dis wn count f₁ f₂ f₃ 
     subst (λ (u : Tree ℕ ℕ). Shifts asRank m m₄ d (foot n l x) (names₀ l r x) u (cost 2 1 0)) (sym (joined-right n e l x t))
     (record {
       reg = S₄ .regs d (omega arith) ∙ S₃ .regs d (omega arith) ∙ S₂ .regs d (omega arith) ∙ d₁;
-      stored = (record { it = E₄ .y; there = E₄ .edited .here; key = E₄ .key ∙ E₃ .key ∙ E₂ .key ∙ N .key; value = E₄ .others 0 (λ z. omega arith) ∙ E₃ .numbers 0 ∙ E₂ .numbers 0 ∙ N .value; mark = E₄ .number; near = E₄ .links 0 ∙ E₃ .far ∙ E₂ .near; far = E₄ .links 1 ∙ E₃ .near }
-        , keep-else asRank (m .state .nodes) (m₄ .state .nodes) n x else zx hx, keep-else asRank (m .state .nodes) (m₄ .state .nodes) n l else zl hl);
+      stored = (
+        record { it = E₄ .y; there = E₄ .edited .here; key = E₄ .key ∙ E₃ .key ∙ E₂ .key ∙ N .key; value = E₄ .others 0 (λ z. omega arith) ∙ E₃ .numbers 0 ∙ E₂ .numbers 0 ∙ N .value; mark = E₄ .number; near = E₄ .links 0 ∙ E₃ .far ∙ E₂ .near; far = E₄ .links 1 ∙ E₃ .near },
+        keep-else asRank (m .state .nodes) (m₄ .state .nodes) n x else zx hx,
+        keep-else asRank (m .state .nodes) (m₄ .state .nodes) n l else zl hl,
+      );
       others = λ i z v. else i (apart i z);
       kept = λ j p. S₄ .regs j (omega arith) ∙ S₃ .regs j (omega arith) ∙ S₂ .regs j (omega arith) ∙ put-other (m .regs) 38 j (rootOf l) (omega arith);
       still = λ w w₁ w₂. S₄ .regs w (omega arith) ∙ S₃ .regs w (omega arith) ∙ S₂ .regs w (omega arith) ∙ put-other (m .regs) 38 w (rootOf l) (omega arith);
       named = λ i. omega (arith, E₄ .named i, E₃ .named i, hR₂ i, n₂ i);
       roots = λ i. E₄ .edited .roots i ∙ E₃ .edited .roots i ∙ E₂ .edited .roots i;
-      linked = omega (arith, S₄ .linked, S₃ .linked, S₂ .linked); numbered = omega (arith, S₄ .numbered, S₃ .numbered, S₂ .numbered); made = omega (arith, S₄ .made, S₃ .made, S₂ .made);
-      nodeLimit = S₄ .nodeLimit ∙ S₃ .nodeLimit ∙ S₂ .nodeLimit; changeLimit = S₄ .changeLimit ∙ S₃ .changeLimit ∙ S₂ .changeLimit; writable = S₄ .writable ∙ S₃ .writable ∙ S₂ .writable; rest = S₄ .rest ∙ S₃ .rest ∙ S₂ .rest }))))))))
+      linked = omega (arith, S₄ .linked, S₃ .linked, S₂ .linked);
+      numbered = omega (arith, S₄ .numbered, S₃ .numbered, S₂ .numbered);
+      made = omega (arith, S₄ .made, S₃ .made, S₂ .made);
+      nodeLimit = S₄ .nodeLimit ∙ S₃ .nodeLimit ∙ S₂ .nodeLimit;
+      changeLimit = S₄ .changeLimit ∙ S₃ .changeLimit ∙ S₂ .changeLimit;
+      writable = S₄ .writable ∙ S₃ .writable ∙ S₂ .writable;
+      rest = S₄ .rest ∙ S₃ .rest ∙ S₂ .rest;
+    }))))))))

@@ -3,3 +3,4 @@ pub mod Merges
 pub mod Pushes
 pub mod Pops
 pub mod Calls
+pub mod Releases
