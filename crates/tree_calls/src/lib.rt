@@ -64,3 +64,30 @@ pub fn save<M: PointerMemory, O: VersionOrder>(
     }
     mem.save(order, root, r)
 }
+
+// Writes the value of register d's node, where it differs.
+pub fn set_value<M: PointerMemory, O: VersionOrder>(
+    mem: &mut M,
+    order: &O,
+    d: usize,
+    value: u64,
+) -> Result<(), MemoryRefusal>
+    ensures { λ q. ⌜ Runs (λ s. M·PointerMemory .means s (O·VersionOrder .items (now (order .entry)))) (now (mem .entry)) (now (mem .exit)) q (renumberOf 0 d value) ⌝ }
+{
+    if mem.value(order, d)? == value {
+        return Ok(());
+    }
+    mem.set_value(order, d, value)
+}
+
+// Both links of a node that is taken out become nil, even where they are; register 35 is nil.
+pub fn blank<M: PointerMemory, O: VersionOrder>(
+    mem: &mut M,
+    order: &O,
+    r: usize,
+) -> Result<(), MemoryRefusal>
+    ensures { λ q. ⌜ Runs (λ s. M·PointerMemory .means s (O·VersionOrder .items (now (order .entry)))) (now (mem .entry)) (now (mem .exit)) q (blankOf r) ⌝ }
+{
+    mem.link(order, r, 0, 35)?;
+    mem.link(order, r, 1, 35)
+}
