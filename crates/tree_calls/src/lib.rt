@@ -91,3 +91,21 @@ pub fn blank<M: PointerMemory, O: VersionOrder>(
     mem.link(order, r, 0, 35)?;
     mem.link(order, r, 1, 35)
 }
+
+// The child on a side of register d's node becomes the root under that register. Both links that are written hold something else before.
+pub fn rotate<M: PointerMemory, O: VersionOrder>(
+    mem: &mut M,
+    order: &O,
+    d: usize,
+    right: bool,
+) -> Result<(), MemoryRefusal>
+    ensures { λ q. ⌜ Runs (λ s. M·PointerMemory .means s (O·VersionOrder .items (now (order .entry)))) (now (mem .entry)) (now (mem .exit)) q (rotateOf d right) ⌝ }
+{
+    let near = side_number(right);
+    let far = side_number(!right);
+    mem.follow(order, d, near, 30)?;
+    mem.follow(order, 30, far, 31)?;
+    mem.link(order, d, near, 31)?;
+    mem.link(order, 30, far, d)?;
+    mem.copy(order, 30, d)
+}
