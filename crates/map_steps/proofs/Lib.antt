@@ -1,0 +1,15 @@
+pub mod Reds
+pub mod InsertFixes
+pub mod InsertCosts
+pub mod Inserts
+pub mod Adds
+pub mod Siblings
+pub mod Shorts
+pub mod Takes
+pub mod StepsUp
+pub mod Firsts
+pub mod Roots
+pub mod Removes
+pub mod Drops
+pub mod Finds
+pub mod Nexts

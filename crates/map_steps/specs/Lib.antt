@@ -1,0 +1,4 @@
+pub mod Insert
+pub mod Remove
+pub mod Find
+pub mod Theorems

@@ -1,0 +1,3 @@
+pub mod Merge
+pub mod Queues
+pub mod Theorems

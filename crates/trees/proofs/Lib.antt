@@ -1,0 +1,9 @@
+pub mod Sorting
+pub mod ListLaws
+pub mod Insertion
+pub mod Removals
+pub mod RemovedLists
+pub mod Rules
+pub mod Heights
+pub mod Heaps
+pub mod Maps
