@@ -39,33 +39,35 @@ suits-like : (i j f : ℕ) (v : Value) → eqb i 0 ≡ eqb j 0 → suits i f v �
 suits-like i j f v e = rw e
 
 pub good-swapped : Coherent-swapped
-good-swapped c d on get nc nd g = record
-  { named = λ i l k oi e.
+good-swapped c d on get nc nd g = record {
+  named = λ i l k oi e.
       let h = g .named (swap c d i) l (swap c d k) oi (back c d (get (swap c d i) l) (To k) e) in
-      (h .0 , elim (h .1) [ inl q ↦ inl (ap (swapped c d) q ∙ ap (λ (n : ℕ). From n l) (swap-swap c d i)) | inr q ↦ inr (ap (swapped c d) q ∙ ap (λ (n : ℕ). From n l) (swap-swap c d i)) ])
-  ; backed = λ k b i l ok e.
+      (h .0, elim (h .1) [ inl q ↦ inl (ap (swapped c d) q ∙ ap (λ (n : ℕ). From n l) (swap-swap c d i)) | inr q ↦ inr (ap (swapped c d) q ∙ ap (λ (n : ℕ). From n l) (swap-swap c d i)) ]);
+  backed = λ k b i l ok e.
       let h = g .backed (swap c d k) b (swap c d i) l ok (back c d (get (swap c d k) b) (From i l) e) in
-      (h .0 , ap (swapped c d) (h .1) ∙ ap To (swap-swap c d k))
-  ; single = λ k ok e.
-      ap (swapped c d) (g .single (swap c d k) ok (sym (swapped-swapped c d (get (swap c d k) 3)) ∙ (ap (swapped c d) e ∙ swapped-swapped c d (get (swap c d k) 4))))
-  ; typed = λ i f oi.
+      (h .0, ap (swapped c d) (h .1) ∙ ap To (swap-swap c d k));
+  single = λ k ok e.
+      ap (swapped c d) (g .single (swap c d k) ok (sym (swapped-swapped c d (get (swap c d k) 3)) ∙ (ap (swapped c d) e ∙ swapped-swapped c d (get (swap c d k) 4))));
+  typed = λ i f oi.
       suits-swapped c d i f (get (swap c d i) f)
-      ∙ (suits-like i (swap c d i) f (get (swap c d i) f) (sym (root-swap c d i nc nd)) ∙ g .typed (swap c d i) f oi) }
+      ∙ (suits-like i (swap c d i) f (get (swap c d i) f) (sym (root-swap c d i nc nd)) ∙ g .typed (swap c d i) f oi);
+}
 
 -- a slice is good by what its serving copies hold
 pub good-agree : (on on′ : ℕ → Type 0) (get get′ : ℕ → ℕ → Value)
     → ((i : ℕ) → on i → on′ i) → ((i : ℕ) → on′ i → on i) → ((i f : ℕ) → on i → get′ i f ≡ get i f)
     → Coherent on get → Coherent on′ get′
-good-agree on on′ get get′ to′ fro same g = record
-  { named = λ i l k oi e.
+good-agree on on′ get get′ to′ fro same g = record {
+  named = λ i l k oi e.
       let h = g .named i l k (fro i oi) (sym (same i l (fro i oi)) ∙ e) in
-      (to′ k (h .0) , elim (h .1) [ inl q ↦ inl (same k 3 (h .0) ∙ q) | inr q ↦ inr (same k 4 (h .0) ∙ q) ])
-  ; backed = λ k b i l ok e.
+      (to′ k (h .0), elim (h .1) [ inl q ↦ inl (same k 3 (h .0) ∙ q) | inr q ↦ inr (same k 4 (h .0) ∙ q) ]);
+  backed = λ k b i l ok e.
       let h = g .backed k b i l (fro k ok) (sym (same k b (fro k ok)) ∙ e) in
-      (to′ i (h .0) , same i l (h .0) ∙ h .1)
-  ; single = λ k ok e.
-      same k 3 (fro k ok) ∙ g .single k (fro k ok) (sym (same k 3 (fro k ok)) ∙ (e ∙ same k 4 (fro k ok)))
-  ; typed = λ i f oi. ap (suits i f) (same i f (fro i oi)) ∙ g .typed i f (fro i oi) }
+      (to′ i (h .0), same i l (h .0) ∙ h .1);
+  single = λ k ok e.
+      same k 3 (fro k ok) ∙ g .single k (fro k ok) (sym (same k 3 (fro k ok)) ∙ (e ∙ same k 4 (fro k ok)));
+  typed = λ i f oi. ap (suits i f) (same i f (fro i oi)) ∙ g .typed i f (fro i oi);
+}
 
 -- what a field may hold, read off
 pub nil-is : (v : Value) → isNil v ≡ true → v ≡ Nil

@@ -27,11 +27,12 @@ newCopy s k u numbers = record { serial = s; key = k; lo = u; first = firstValue
 
 -- a new node, made in the version u
 abbrev pub makeNode : ℕ → ℕ → (ℕ → ℕ) → Copies → Copies
-makeNode u k numbers M = record
-  { total = suc (M .total)
-  ; copy = λ i. cond (eqb i (M .total)) (newCopy (suc (M .made)) k u numbers) (M .copy i)
-  ; made = suc (M .made)
-  ; versions = M .versions }
+makeNode u k numbers M = record {
+  total = suc (M .total);
+  copy = λ i. cond (eqb i (M .total)) (newCopy (suc (M .made)) k u numbers) (M .copy i);
+  made = suc (M .made);
+  versions = M .versions;
+}
 
 -- the copies stay sound; from u on one more copy serves, and all others serve and read as before
 abbrev pub Make-sound : Type 0
@@ -62,11 +63,11 @@ One-serves = (pos : ℕ → ℕ) (M : Copies) → Sound pos M → (p s : ℕ) �
 abbrev pub Births-stay : Type 0
 Births-stay =
     ((pos : ℕ → ℕ) (M : Copies) (u k : ℕ) (numbers : ℕ → ℕ) → Sound pos M → pos u < M .versions → (p s : ℕ)
-      → (Born pos M p s → Born pos (makeNode u k numbers M) p s)
-      × (pos u ≤ p → Born pos (makeNode u k numbers M) p (suc (M .made)))
-      × (Born pos (makeNode u k numbers M) p s → Born pos M p s ⊎ ((s ≡ suc (M .made)) × (pos u ≤ p))))
+    → (Born pos M p s → Born pos (makeNode u k numbers M) p s)
+    × (pos u ≤ p → Born pos (makeNode u k numbers M) p (suc (M .made)))
+    × (Born pos (makeNode u k numbers M) p s → Born pos M p s ⊎ ((s ≡ suc (M .made)) × (pos u ≤ p))))
     × ((pos : ℕ → ℕ) (M : Copies) (c x : ℕ) → Sound pos M
-      → (c ≡ 0 → ⊥) → Serves pos M (pos x) c → pos (M .copy c .lo) < pos x → (p s : ℕ) → p < M .versions
-      → (Born pos M p s → Born pos (split pos c x M) p s) × (Born pos (split pos c x M) p s → Born pos M p s))
+    → (c ≡ 0 → ⊥) → Serves pos M (pos x) c → pos (M .copy c .lo) < pos x → (p s : ℕ) → p < M .versions
+    → (Born pos M p s → Born pos (split pos c x M) p s) × (Born pos (split pos c x M) p s → Born pos M p s))
     × ((pos pos′ : ℕ → ℕ) (q : ℕ) (M : Copies) → 0 < q → q ≤ M .versions → ((v : ℕ) → pos v < M .versions → pos′ v ≡ up q (pos v)) → Sound pos M → (p s : ℕ) → p < suc (M .versions)
-      → (Born pos M (down q p) s → Born pos′ (opened M) p s) × (Born pos′ (opened M) p s → Born pos M (down q p) s))
+    → (Born pos M (down q p) s → Born pos′ (opened M) p s) × (Born pos′ (opened M) p s → Born pos M (down q p) s))

@@ -22,14 +22,15 @@ use Rattle.slices.specs.Copies.{Copy, Copies, valueAt, Serves, Decides, CopyOk
 -- copy's first version. more says whether the version s right behind u belongs to the copy too: then s, where it has no entry of f,
 -- gets one with the value before the change
 abbrev pub changed : (ℕ → ℕ) → ℕ → ℕ → Bool → ℕ → Value → Copy → Copy
-changed pos u s more f w k = record
-  { serial = k .serial
-  ; key = k .key
-  ; lo = k .lo
-  ; first = λ g. cond (both (eqb (pos u) (pos (k .lo))) (eqb g f)) w (k .first g)
-  ; entries = cond (eqb (pos u) (pos (k .lo)))
+changed pos u s more f w k = record {
+  serial = k .serial;
+  key = k .key;
+  lo = k .lo;
+  first = λ g. cond (both (eqb (pos u) (pos (k .lo))) (eqb g f)) w (k .first g);
+  entries = cond (eqb (pos u) (pos (k .lo)))
       (cond more (keep pos f s (valueAt pos (pos u) k f) (k .entries)) (k .entries))
-      (put pos f u w (cond more (keep pos f s (valueAt pos (pos u) k f) (k .entries)) (k .entries))) }
+      (put pos f u w (cond more (keep pos f s (valueAt pos (pos u) k f) (k .entries)) (k .entries)));
+}
 
 -- at u the field reads w; at every other position that the copy serves, and in every other field, the copy reads as before
 abbrev pub Changed-reads : Type 0
@@ -41,11 +42,12 @@ Changed-reads = (pos : ℕ → ℕ) (k : Copy) (u s f : ℕ) (more : Bool) (w : 
 
 -- the field f of the copy i changed at the version u
 abbrev pub setField : (ℕ → ℕ) → ℕ → ℕ → Bool → ℕ → ℕ → Value → Copies → Copies
-setField pos u s more i f w M = record
-  { total = M .total
-  ; copy = λ j. cond (eqb j i) (changed pos u s more f w (M .copy i)) (M .copy j)
-  ; made = M .made
-  ; versions = M .versions }
+setField pos u s more i f w M = record {
+  total = M .total;
+  copy = λ j. cond (eqb j i) (changed pos u s more f w (M .copy i)) (M .copy j);
+  made = M .made;
+  versions = M .versions;
+}
 
 -- more tells whether the copy i serves the position behind u too, and s is the version there
 abbrev pub NextServed : (ℕ → ℕ) → Copies → ℕ → ℕ → Bool → ℕ → Type 0

@@ -26,4 +26,4 @@ abbrev pub Open-sound : Type 0
 Open-sound = (pos pos′ : ℕ → ℕ) (q : ℕ) (M : Copies) → 0 < q → q ≤ M .versions → ((v : ℕ) → pos v < M .versions → pos′ v ≡ up q (pos v)) → Sound pos M
     → Sound pos′ (opened M)
     × ((p i : ℕ) → (Serves pos′ (opened M) p i → Serves pos M (down q p) i) × (Serves pos M (down q p) i → Serves pos′ (opened M) p i)
-        × (i < M .total → (f : ℕ) → valueAt pos′ p (M .copy i) f ≡ valueAt pos (down q p) (M .copy i) f))
+    × (i < M .total → (f : ℕ) → valueAt pos′ p (M .copy i) f ≡ valueAt pos (down q p) (M .copy i) f))

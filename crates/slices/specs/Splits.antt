@@ -52,13 +52,20 @@ maps pos c d (f ∷ fs) x es = mapped pos (swapped c d) f x (maps pos c d fs x e
 abbrev pub renamedCopy : (ℕ → ℕ) → List ℕ → ℕ → ℕ → ℕ → Bool → Copy → Copy
 renamedCopy pos fs c d x here k =
     cond (leb (pos x) (pos (k .lo)))
-    (record
-      { serial = k .serial; key = k .key; lo = k .lo
-      ; first = λ f. cond (eqb (times f fs) 0) (k .first f) (swapped c d (k .first f))
-      ; entries = maps pos c d fs (pos x) (k .entries) })
-    (record
-      { serial = k .serial; key = k .key; lo = k .lo; first = k .first
-      ; entries = cond here (renames pos c d fs x (k .first) (k .entries)) (k .entries) })
+    (record {
+      serial = k .serial;
+      key = k .key;
+      lo = k .lo;
+      first = λ f. cond (eqb (times f fs) 0) (k .first f) (swapped c d (k .first f));
+      entries = maps pos c d fs (pos x) (k .entries);
+    })
+    (record {
+      serial = k .serial;
+      key = k .key;
+      lo = k .lo;
+      first = k .first;
+      entries = cond here (renames pos c d fs x (k .first) (k .entries)) (k .entries);
+    })
 
 -- the old copy keeps the entries before x
 abbrev pub frontHalf : (ℕ → ℕ) → ℕ → Copy → Copy
@@ -73,14 +80,15 @@ backHalf pos x k =
 -- the split of the copy c at the version x, where here tells of each copy whether it serves x: the new copy is the last. Whatever
 -- named the old copy for versions from x on names the new one
 abbrev pub splitBy : (ℕ → ℕ) → (ℕ → Bool) → ℕ → ℕ → Copies → Copies
-splitBy pos here c x M = record
-  { total = suc (M .total)
-  ; copy = λ i.
+splitBy pos here c x M = record {
+  total = suc (M .total);
+  copy = λ i.
       cond (eqb i (M .total)) (backHalf pos x (renamedCopy pos naming c (M .total) x (here c) (M .copy c)))
       (cond (eqb i c) (frontHalf pos x (renamedCopy pos naming c (M .total) x (here c) (M .copy c)))
-      (renamedCopy pos naming c (M .total) x (here i) (M .copy i)))
-  ; made = M .made
-  ; versions = M .versions }
+      (renamedCopy pos naming c (M .total) x (here i) (M .copy i)));
+  made = M .made;
+  versions = M .versions;
+}
 
 abbrev pub split : (ℕ → ℕ) → ℕ → ℕ → Copies → Copies
 split pos c x M = splitBy pos (serving pos M (pos x)) c x M
@@ -92,9 +100,9 @@ Split-sound = (pos : ℕ → ℕ) (M : Copies) (c x : ℕ) → Sound pos M
     → (c ≡ 0 → ⊥) → Serves pos M (pos x) c → pos (M .copy c .lo) < pos x
     → Sound pos (split pos c x M)
     × ((p i : ℕ) → p < pos x → Serves pos M p i →
-        Serves pos (split pos c x M) p i × ((f : ℕ) → valueAt pos p (split pos c x M .copy i) f ≡ valueAt pos p (M .copy i) f))
+    Serves pos (split pos c x M) p i × ((f : ℕ) → valueAt pos p (split pos c x M .copy i) f ≡ valueAt pos p (M .copy i) f))
     × ((p i : ℕ) → pos x ≤ p → Serves pos M p i →
-        Serves pos (split pos c x M) p (swap c (M .total) i)
-        × ((f : ℕ) → valueAt pos p (split pos c x M .copy (swap c (M .total) i)) f ≡ swapped c (M .total) (valueAt pos p (M .copy i) f)))
+    Serves pos (split pos c x M) p (swap c (M .total) i)
+    × ((f : ℕ) → valueAt pos p (split pos c x M .copy (swap c (M .total) i)) f ≡ swapped c (M .total) (valueAt pos p (M .copy i) f)))
     × ((p i : ℕ) → p < pos x → Serves pos (split pos c x M) p i → Serves pos M p i)
     × ((p i : ℕ) → pos x ≤ p → Serves pos (split pos c x M) p i → Serves pos M p (swap c (M .total) i))

@@ -36,10 +36,10 @@ Positions-stand = (xs : List ℕ)
     × (Distinct xs → (u s : ℕ) → position xs u < length xs → following xs u ≡ Some s → position xs s ≡ suc (position xs u))
     × (Distinct xs → (u : ℕ) → position xs u < length xs → following xs u ≡ None → suc (position xs u) ≡ length xs)
     × ((a n : ℕ) → position xs a < length xs → length xs ≤ position xs n
-      → (length (behind xs a n) ≡ suc (length xs))
-      × (position (behind xs a n) n ≡ suc (position xs a))
-      × ((v : ℕ) → position xs v < length xs → position (behind xs a n) v ≡ up (suc (position xs a)) (position xs v))
-      × ((v : ℕ) → position (behind xs a n) v < suc (length xs) → (v ≡ n) ⊎ (position xs v < length xs)))
+    → (length (behind xs a n) ≡ suc (length xs))
+    × (position (behind xs a n) n ≡ suc (position xs a))
+    × ((v : ℕ) → position xs v < length xs → position (behind xs a n) v ≡ up (suc (position xs a)) (position xs v))
+    × ((v : ℕ) → position (behind xs a n) v < suc (length xs) → (v ≡ n) ⊎ (position xs v < length xs)))
 
 -- what a change needs to know of the version behind is the order's successor; and no other version stands where u does
 abbrev pub Behind-listed : Type 0
