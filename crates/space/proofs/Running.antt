@@ -16,7 +16,7 @@ use Rattle.fields.specs.Fields.{number, suits, HasLink}
 use Rattle.entries.specs.Entries.{both}
 use Rattle.order.specs.Items.{member, Distinct, known, position, following, behind}
 use Rattle.order.proofs.Members.{long-behind, member-behind-new, member-others}
-use Rattle.memory.specs.Memory.{sumTo}
+use Rattle.memory.specs.Memory.{put, sumTo}
 use Rattle.slices.specs.Slices.{Coherent}
 use Rattle.slices.specs.Copies.{Copy, Copies, Serves, serving, CopyOk, Shaped, Sound}
 use Rattle.slices.specs.Splits.{split}
@@ -27,7 +27,7 @@ use Rattle.slices.proofs.Serving.{both-true, lt-is, le-is, eq-is, serving-tells
 use Rattle.slices.proofs.Splitting.{split-sound}
 use Rattle.slices.proofs.Bearing.{make-sound}
 use Rattle.states.specs.Relinks.{not, slice, relink, relinked, write, setNumber, crowded, LinkTarget}
-use Rattle.states.specs.Nodes.{NodeState, Shows, Means, instead, withNode, wrote, bySerial, Held}
+use Rattle.states.specs.Nodes.{NodeState, Shows, Means, withNode, wrote, bySerial, Held}
 use Rattle.states.proofs.Linking.{to-same}
 use Rattle.states.proofs.Relinking.{relink-sound, setNumber-sound}
 use Rattle.states.proofs.Meaning.{make-means, relink-means, setNumber-means, split-means, setAll-versions}

@@ -25,12 +25,13 @@ use Rattle.fields.specs.declared.kinds.Value.the-variants.{Number, Nil, To, Fro
 use Rattle.fields.specs.Fields.{number, HasLink}
 use Rattle.entries.specs.Entries.{both}
 use Rattle.order.specs.Items.{member, Distinct, known, position, following, behind}
+use Rattle.memory.specs.Memory.{put}
 use Rattle.slices.specs.Copies.{Copies, Serves, serving, Sound}
 use Rattle.slices.specs.Splits.{split}
 use Rattle.slices.specs.Openings.{opened}
 use Rattle.slices.specs.Births.{makeNode}
 use Rattle.states.specs.Relinks.{not, slice, relink, setNumber, crowded, LinkTarget}
-use Rattle.states.specs.Nodes.{NodeState, Means, instead, withNode, wrote, bySerial, Held}
+use Rattle.states.specs.Nodes.{NodeState, Means, withNode, wrote, bySerial, Held}
 use Rattle.states.specs.Listed.{nextOf}
 use Rattle.space.specs.Space.{size, allEntries, elsewhere, surplus, splitVersion}
 
@@ -76,7 +77,7 @@ abbrev pub after : World → Move → World
 after W (opening a) = record {
   order = behind (W .order) a (length (W .order));
   copies = opened (W .copies);
-  states = instead (W .states) (length (W .order)) (W .states a);
+  states = put (W .states) (length (W .order)) (W .states a);
   splits = W .splits;
   linked = W .linked;
   numbered = W .numbered;
@@ -85,7 +86,7 @@ after W (opening a) = record {
 after W (making u key numbers) = record {
   order = W .order;
   copies = makeNode u key numbers (W .copies);
-  states = instead (W .states) u (withNode (suc (W .copies .made)) key numbers (W .states u));
+  states = put (W .states) u (withNode (suc (W .copies .made)) key numbers (W .states u));
   splits = W .splits;
   linked = W .linked;
   numbered = W .numbered;
@@ -94,7 +95,7 @@ after W (making u key numbers) = record {
 after W (linking u i l v) = record {
   order = W .order;
   copies = relinkedIn W u i l v;
-  states = instead (W .states) u (wrote (W .copies .copy i .serial) l (bySerial (W .copies) v) (W .states u));
+  states = put (W .states) u (wrote (W .copies .copy i .serial) l (bySerial (W .copies) v) (W .states u));
   splits = W .splits;
   linked = W .linked + 1;
   numbered = W .numbered;
@@ -103,7 +104,7 @@ after W (linking u i l v) = record {
 after W (numbering u i n w) = record {
   order = W .order;
   copies = numberedIn W u i n w;
-  states = instead (W .states) u (wrote (W .copies .copy i .serial) (number n) (Number w) (W .states u));
+  states = put (W .states) u (wrote (W .copies .copy i .serial) (number n) (Number w) (W .states u));
   splits = W .splits;
   linked = W .linked;
   numbered = W .numbered + 1;

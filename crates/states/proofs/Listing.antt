@@ -15,13 +15,14 @@ use Rattle.std.specs.declared.option.Option.{Option}
 use Rattle.std.specs.declared.option.Option.the-variants.{Some, None}
 use Rattle.fields.specs.Fields.{suits, Shown}
 use Rattle.order.specs.Items.{member, Distinct, position, following, behind}
+use Rattle.memory.specs.Memory.{put}
 use Rattle.slices.specs.Copies.{Copy, Copies, valueAt, Serves, Sound}
 use Rattle.slices.specs.Openings.{opened, up}
 use Rattle.slices.proofs.Swapping.{to-spot}
 use Rattle.slices.proofs.Opening.{open-sound}
 use Rattle.slices.proofs.Bearing.{one-only}
 use Rattle.states.specs.Relinks.{slice, crowded, TwoOthers}
-use Rattle.states.specs.Nodes.{NodeState, Shows, Means, Alone, instead, bySerial}
+use Rattle.states.specs.Nodes.{NodeState, Shows, Means, Alone, bySerial}
 use Rattle.states.specs.Listed.{nextOf, Behind-listed, Open-listed, TwoNames, Third-link}
 use Rattle.states.proofs.Linking.{clash-to}
 use Rattle.states.proofs.Relinking.{crowded-means}

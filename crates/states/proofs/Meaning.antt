@@ -13,6 +13,7 @@ use Rattle.fields.specs.declared.kinds.Value.{Value}
 use Rattle.fields.specs.declared.kinds.Value.the-variants.{Number, Nil, To, From}
 use Rattle.fields.specs.Fields.{number, suits, HasLink, Shown}
 use Rattle.entries.specs.Entries.{both}
+use Rattle.memory.specs.Memory.{put}
 use Rattle.slices.specs.Slices.{Coherent, withValue, swap, swapped}
 use Rattle.slices.specs.Copies.{Copy, Copies, valueAt, Serves, serving, CoherentAt, Shaped, Sound}
 use Rattle.slices.specs.Splits.{split}
@@ -25,7 +26,7 @@ use Rattle.slices.proofs.Splitting.{split-sound, split-serial, split-swap, spli
 use Rattle.slices.proofs.Opening.{open-sound, down-up}
 use Rattle.slices.proofs.Bearing.{make-sound, one-only}
 use Rattle.states.specs.Relinks.{slice, relink, relinked, write, crowded, LinkTarget, setNumber}
-use Rattle.states.specs.Nodes.{NodeState, bySerial, Shows, Means, instead, Alone, State-closed, Split-means, Open-means, withNode, Make-means, wrote, Held, Relink-means, SetNumber-means, Split-register}
+use Rattle.states.specs.Nodes.{NodeState, bySerial, Shows, Means, Alone, State-closed, Split-means, Open-means, withNode, Make-means, wrote, Held, Relink-means, SetNumber-means, Split-register}
 use Rattle.states.proofs.Linking.{clash, clash-to, clash-both, to-same}
 use Rattle.states.proofs.Relinking.{relink-sound, setNumber-sound}
 
@@ -132,11 +133,11 @@ split-means pos M A c x S nc sv lt me v hv =
           (λ i f s. R .2 p i l s .1 f ∙ sym (ren-swap c (M .total) (valueAt pos p (M .copy i) f))) (A v) (me v hv)
     ]
 
-pub instead-same : {B : Type 0} (A : ℕ → B) (u : ℕ) (b : B) → instead A u b u ≡ b
-instead-same A u b = rw (eq-eqb u u refl)
+pub at-same : {B : Type 0} (A : ℕ → B) (u : ℕ) (b : B) → put A u b u ≡ b
+at-same A u b = rw (eq-eqb u u refl)
 
-pub instead-other : {B : Type 0} (A : ℕ → B) (u : ℕ) (b : B) (v : ℕ) → (v ≡ u → ⊥) → instead A u b v ≡ A v
-instead-other A u b v n = rw (ne-eqb v u n)
+pub at-other : {B : Type 0} (A : ℕ → B) (u : ℕ) (b : B) (v : ℕ) → (v ≡ u → ⊥) → put A u b v ≡ A v
+at-other A u b v n = rw (ne-eqb u v (λ e. n (sym e)))
 
 down-self : (p : ℕ) → down (suc p) (suc p) ≡ p
 down-self p = grind arith
@@ -154,14 +155,14 @@ open-means pos pos′ M A a b ha hb shift known S me v hv =
       | inl e ↦
           let at-b : pos′ v ≡ q = ap pos′ e ∙ hb in
           let d : down q (pos′ v) ≡ pos a = ap (down q) at-b ∙ down-self (pos a) in
-          subst (λ (st : NodeState). Shows pos′ (opened M) (pos′ v) st) (sym (ap (instead A b (A a)) e ∙ instead-same A b (A a)))
+          subst (λ (st : NodeState). Shows pos′ (opened M) (pos′ v) st) (sym (ap (put A b (A a)) e ∙ at-same A b (A a)))
           (move (pos′ v) (A a) (subst (λ (z : ℕ). Shows pos M z (A a)) (sym d) (me a ha)))
       | inr n ↦
           elim (known v hv) [
             | inl e ↦ absurd (n e)
             | inr k ↦
                 let d : down q (pos′ v) ≡ pos v = ap (down q) (shift v k) ∙ down-up q (pos v) in
-                subst (λ (st : NodeState). Shows pos′ (opened M) (pos′ v) st) (sym (instead-other A b (A a) v n))
+                subst (λ (st : NodeState). Shows pos′ (opened M) (pos′ v) st) (sym (at-other A b (A a) v n))
                 (move (pos′ v) (A v) (subst (λ (z : ℕ). Shows pos M z (A v)) (sym d) (me v k)))
           ]
     ]
@@ -234,40 +235,40 @@ module _ (pos : ℕ → ℕ) (M : Copies) (A : ℕ → NodeState) (u k : ℕ) (n
       let st = withNode N k numbers (A u) in
       let first = firstValues numbers in
       record {
-        root = instead-other (A u .has) N true 0 (λ e. omega (arith, e)) ∙ me u hu .root;
+        root = at-other (A u .has) N true 0 (λ e. omega (arith, e)) ∙ me u hu .root;
         held = λ s t.
             elim (cases-eq s N) [
               | inl e ↦ (M .total, make-sound pos M u k numbers S hu .3 (pos u) (omega arith) hu, ser-new (M .total) refl ∙ sym e)
-              | inr n ↦ let q = me u hu .held s (sym (instead-other (A u .has) N true s n) ∙ t) in (q .0, make-sound pos M u k numbers S hu .4 (pos u) (q .0) (q .1), ser (q .0) (q .1 .0) ∙ q .2)
+              | inr n ↦ let q = me u hu .held s (sym (at-other (A u .has) N true s n) ∙ t) in (q .0, make-sound pos M u k numbers S hu .4 (pos u) (q .0) (q .1), ser (q .0) (q .1 .0) ∙ q .2)
             ];
         keyed = λ i si t.
             elim (make-sound pos M u k numbers S hu .5 (pos u) i si) [
               | inl o ↦
                   let ne : makeNode u k numbers M .copy i .serial ≡ N → ⊥ = λ e. old-not i (o .0) (sym (ser i (o .0)) ∙ e) in
-                  instead-other (A u .key) N k (makeNode u k numbers M .copy i .serial) ne
+                  at-other (A u .key) N k (makeNode u k numbers M .copy i .serial) ne
                   ∙ (ap (A u .key) (ser i (o .0))
-                  ∙ (me u hu .keyed i o (ap (A u .has) (sym (ser i (o .0))) ∙ (sym (instead-other (A u .has) N true (makeNode u k numbers M .copy i .serial) ne) ∙ t))
+                  ∙ (me u hu .keyed i o (ap (A u .has) (sym (ser i (o .0))) ∙ (sym (at-other (A u .has) N true (makeNode u k numbers M .copy i .serial) ne) ∙ t))
                   ∙ sym (key-old i (o .0))))
-              | inr o ↦ ap (st .key) (ser-new i (o .0)) ∙ (instead-same (A u .key) N k ∙ sym (key-new i (o .0)))
+              | inr o ↦ ap (st .key) (ser-new i (o .0)) ∙ (at-same (A u .key) N k ∙ sym (key-new i (o .0)))
             ];
         holds = λ i f si t lf.
             elim (make-sound pos M u k numbers S hu .5 (pos u) i si) [
               | inl o ↦
                   let ne : makeNode u k numbers M .copy i .serial ≡ N → ⊥ = λ e. old-not i (o .0) (sym (ser i (o .0)) ∙ e) in
-                  ap (λ (h : ℕ → Value). h f) (instead-other (A u .get) N first (makeNode u k numbers M .copy i .serial) ne)
+                  ap (λ (h : ℕ → Value). h f) (at-other (A u .get) N first (makeNode u k numbers M .copy i .serial) ne)
                   ∙ (ap (λ (z : ℕ). A u .get z f) (ser i (o .0))
-                  ∙ (me u hu .holds i f o (ap (A u .has) (sym (ser i (o .0))) ∙ (sym (instead-other (A u .has) N true (makeNode u k numbers M .copy i .serial) ne) ∙ t)) lf
+                  ∙ (me u hu .holds i f o (ap (A u .has) (sym (ser i (o .0))) ∙ (sym (at-other (A u .has) N true (makeNode u k numbers M .copy i .serial) ne) ∙ t)) lf
                   ∙ sym (raised-old (pos u) i f o)))
               | inr o ↦
                   ap (λ (z : ℕ). st .get z f) (ser-new i (o .0))
-                  ∙ (ap (λ (h : ℕ → Value). h f) (instead-same (A u .get) N first)
+                  ∙ (ap (λ (h : ℕ → Value). h f) (at-same (A u .get) N first)
                   ∙ (sym (new-raised f) ∙ ap (bySerial (makeNode u k numbers M)) (sym (fld-new (pos u) i f (o .0)))))
             ];
         blank = λ i f si t low.
             elim (make-sound pos M u k numbers S hu .5 (pos u) i si) [
               | inl o ↦
                   let ne : makeNode u k numbers M .copy i .serial ≡ N → ⊥ = λ e. old-not i (o .0) (sym (ser i (o .0)) ∙ e) in
-                  fld (pos u) i f (o .0) ∙ me u hu .blank i f o (ap (A u .has) (sym (ser i (o .0))) ∙ (sym (instead-other (A u .has) N true (makeNode u k numbers M .copy i .serial) ne) ∙ t)) low
+                  fld (pos u) i f (o .0) ∙ me u hu .blank i f o (ap (A u .has) (sym (ser i (o .0))) ∙ (sym (at-other (A u .has) N true (makeNode u k numbers M .copy i .serial) ne) ∙ t)) low
               | inr o ↦ fld-new (pos u) i f (o .0) ∙ new-blank f low
             ];
       }
@@ -276,9 +277,9 @@ pub make-means : Make-means
 make-means pos M A u k numbers S hu alone me x hx =
     elim (cases-eq x u) [
       | inl e ↦
-          subst (λ (z : ℕ). Shows pos (makeNode u k numbers M) (pos z) (instead A u (withNode (suc (M .made)) k numbers (A u)) z)) (sym e)
-          (subst (λ (st : NodeState). Shows pos (makeNode u k numbers M) (pos u) st) (sym (instead-same A u (withNode (suc (M .made)) k numbers (A u)))) (shows-here pos M A u k numbers S hu me))
-      | inr n ↦ subst (λ (st : NodeState). Shows pos (makeNode u k numbers M) (pos x) st) (sym (instead-other A u (withNode (suc (M .made)) k numbers (A u)) x n)) (shows-there pos M A u k numbers S hu me x hx)
+          subst (λ (z : ℕ). Shows pos (makeNode u k numbers M) (pos z) (put A u (withNode (suc (M .made)) k numbers (A u)) z)) (sym e)
+          (subst (λ (st : NodeState). Shows pos (makeNode u k numbers M) (pos u) st) (sym (at-same A u (withNode (suc (M .made)) k numbers (A u)))) (shows-here pos M A u k numbers S hu me))
+      | inr n ↦ subst (λ (st : NodeState). Shows pos (makeNode u k numbers M) (pos x) st) (sym (at-other A u (withNode (suc (M .made)) k numbers (A u)) x n)) (shows-there pos M A u k numbers S hu me x hx)
     ]
 
 setField-serial : (pos : ℕ → ℕ) (u s : ℕ) (more : Bool) (i f : ℕ) (w : Value) (M : Copies) (j : ℕ) → setField pos u s more i f w M .copy j .serial ≡ M .copy j .serial
@@ -348,16 +349,16 @@ module _ (pos : ℕ → ℕ) (M D : Copies) (A : ℕ → NodeState) (u i l : ℕ
             away j f t′ o ∙ h .blank j f o t′ low;
       }
 
-  wrote-means : Means pos D (instead A u (wrote (M .copy i .serial) l (bySerial M v) (A u)))
+  wrote-means : Means pos D (put A u (wrote (M .copy i .serial) l (bySerial M v) (A u)))
   wrote-means x hx =
       let hx′ : pos x < M .versions = subst (λ (z : ℕ). pos x < z) count hx in
       elim (cases-eq x u) [
         | inl e ↦
-            subst (λ (z : ℕ). pos z < M .versions → Shows pos D (pos z) (instead A u (wrote (M .copy i .serial) l (bySerial M v) (A u)) z)) (sym e)
-            (λ hu. subst (λ (st : NodeState). Shows pos D (pos u) st) (sym (instead-same A u (wrote (M .copy i .serial) l (bySerial M v) (A u)))) (here-shows hu)) hx′
+            subst (λ (z : ℕ). pos z < M .versions → Shows pos D (pos z) (put A u (wrote (M .copy i .serial) l (bySerial M v) (A u)) z)) (sym e)
+            (λ hu. subst (λ (st : NodeState). Shows pos D (pos u) st) (sym (at-same A u (wrote (M .copy i .serial) l (bySerial M v) (A u)))) (here-shows hu)) hx′
         | inr n ↦
             let np : pos x ≡ pos u → ⊥ = λ e. n (alone x hx′ e) in
-            subst (λ (st : NodeState). Shows pos D (pos x) st) (sym (instead-other A u (wrote (M .copy i .serial) l (bySerial M v) (A u)) x n))
+            subst (λ (st : NodeState). Shows pos D (pos x) st) (sym (at-other A u (wrote (M .copy i .serial) l (bySerial M v) (A u)) x n))
             (shows-moved pos pos M D (pos x) (pos x) (S .good (pos x)) (λ j. j)
             (λ j s. serves (pos x) j .0 s) (λ j s. (j, serves (pos x) j .1 s, refl)) (λ j s. ser j) (λ j s. key j)
             (λ j f s. there (pos x) j f np s ∙ sym (ren-id (valueAt pos (pos x) (M .copy j) f))) (A x) (me x hx′))

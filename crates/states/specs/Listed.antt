@@ -17,10 +17,11 @@ use Rattle.fields.specs.declared.kinds.Value.{Value}
 use Rattle.fields.specs.declared.kinds.Value.the-variants.{Number, Nil, To, From}
 use Rattle.fields.specs.Fields.{Shown}
 use Rattle.order.specs.Items.{member, Distinct, position, following, behind}
+use Rattle.memory.specs.Memory.{put}
 use Rattle.slices.specs.Copies.{Copies, Serves, Sound}
 use Rattle.slices.specs.Openings.{opened, up}
 use Rattle.states.specs.Relinks.{slice, crowded, Behind}
-use Rattle.states.specs.Nodes.{NodeState, Shows, Means, Alone, instead}
+use Rattle.states.specs.Nodes.{NodeState, Shows, Means, Alone}
 
 -- the version behind, or any, where there is none
 abbrev pub nextOf : Option ℕ → ℕ
@@ -50,7 +51,7 @@ Behind-listed = (xs : List ℕ) (M : Copies) (u : ℕ) → M .versions ≡ lengt
 abbrev pub Open-listed : Type 0
 Open-listed = (xs : List ℕ) (M : Copies) (A : ℕ → NodeState) (a n : ℕ) → M .versions ≡ length xs → position xs a < length xs → length xs ≤ position xs n
     → Sound (position xs) M → Means (position xs) M A
-    → Sound (position (behind xs a n)) (opened M) × Means (position (behind xs a n)) (opened M) (instead A n (A a)) × (opened M .versions ≡ length (behind xs a n))
+    → Sound (position (behind xs a n)) (opened M) × Means (position (behind xs a n)) (opened M) (put A n (A a)) × (opened M .versions ≡ length (behind xs a n))
 
 -- two links or roots of the state, other than the link l of s, name t
 abbrev pub TwoNames : NodeState → ℕ → ℕ → ℕ → Type 0

@@ -3,7 +3,6 @@
 --   NodeState           which serial numbers a version holds, their key places, links and numbers
 --   bySerial            a link to a copy as a link to its serial number
 --   Shows, Means        a slice shows a state; the copies stand for the states of all versions
---   instead             a function with one value replaced
 --   withNode, wrote     a state with a new node; a state with a link or number written
 --   State-closed        a state names only nodes that it holds
 --   Split-means, Open-means, Make-means, Relink-means, SetNumber-means      what each step does to the states
@@ -18,6 +17,7 @@ use lib.Dec.{eqb, leb}
 use Rattle.fields.specs.declared.kinds.Value.{Value}
 use Rattle.fields.specs.declared.kinds.Value.the-variants.{Number, Nil, To, From}
 use Rattle.fields.specs.Fields.{number, HasLink, Shown}
+use Rattle.memory.specs.Memory.{put}
 use Rattle.slices.specs.Slices.{withValue, swap}
 use Rattle.slices.specs.Copies.{Copies, valueAt, Serves, Sound}
 use Rattle.slices.specs.Splits.{split}
@@ -50,10 +50,6 @@ pub record Shows (pos : ℕ → ℕ) (M : Copies) (p : ℕ) (st : NodeState) : T
 abbrev pub Means : (ℕ → ℕ) → Copies → (ℕ → NodeState) → Type 0
 Means pos M A = (v : ℕ) → pos v < M .versions → Shows pos M (pos v) (A v)
 
--- b in place of the value at u
-abbrev pub instead : {B : Type 0} → (ℕ → B) → ℕ → B → ℕ → B
-instead A u b v = cond (eqb v u) b (A v)
-
 -- no other version stands where u does
 abbrev pub Alone : (ℕ → ℕ) → Copies → ℕ → Type 0
 Alone pos M u = (v : ℕ) → pos v < M .versions → pos v ≡ pos u → v ≡ u
@@ -72,16 +68,16 @@ Split-means = (pos : ℕ → ℕ) (M : Copies) (A : ℕ → NodeState) (c x : �
 abbrev pub Open-means : Type 0
 Open-means = (pos pos′ : ℕ → ℕ) (M : Copies) (A : ℕ → NodeState) (a b : ℕ) → pos a < M .versions → pos′ b ≡ suc (pos a)
     → ((v : ℕ) → pos v < M .versions → pos′ v ≡ up (suc (pos a)) (pos v)) → ((v : ℕ) → pos′ v < suc (M .versions) → (v ≡ b) ⊎ (pos v < M .versions))
-    → Sound pos M → Means pos M A → Means pos′ (opened M) (instead A b (A a))
+    → Sound pos M → Means pos M A → Means pos′ (opened M) (put A b (A a))
 
 -- a state with one node more: the serial number s, the key place k, nil links and the numbers given
 abbrev pub withNode : ℕ → ℕ → (ℕ → ℕ) → NodeState → NodeState
-withNode s k numbers st = record { has = instead (st .has) s true; key = instead (st .key) s k; get = instead (st .get) s (firstValues numbers) }
+withNode s k numbers st = record { has = put (st .has) s true; key = put (st .key) s k; get = put (st .get) s (firstValues numbers) }
 
 -- a node made in u belongs to u's state alone
 abbrev pub Make-means : Type 0
 Make-means = (pos : ℕ → ℕ) (M : Copies) (A : ℕ → NodeState) (u k : ℕ) (numbers : ℕ → ℕ) → Sound pos M → pos u < M .versions → Alone pos M u → Means pos M A
-    → Means pos (makeNode u k numbers M) (instead A u (withNode (suc (M .made)) k numbers (A u)))
+    → Means pos (makeNode u k numbers M) (put A u (withNode (suc (M .made)) k numbers (A u)))
 
 -- a state in which the field f of the serial number s is v
 abbrev pub wrote : ℕ → ℕ → Value → NodeState → NodeState
@@ -97,14 +93,14 @@ Relink-means = (pos : ℕ → ℕ) (M : Copies) (A : ℕ → NodeState) (u s : �
     → Behind pos M u s → Serves pos M (pos u) i → HasLink i l → LinkTarget pos M u v
     → A u .has (M .copy i .serial) ≡ true → Held M (A u) v
     → crowded (slice pos u M) i l v ≡ false → Means pos M A
-    → Means pos (relink pos u s i l v M) (instead A u (wrote (M .copy i .serial) l (bySerial M v) (A u)))
+    → Means pos (relink pos u s i l v M) (put A u (wrote (M .copy i .serial) l (bySerial M v) (A u)))
 
 -- a number written in u is written in u's state alone
 abbrev pub SetNumber-means : Type 0
 SetNumber-means = (pos : ℕ → ℕ) (M : Copies) (A : ℕ → NodeState) (u s : ℕ) (i n w : ℕ) → Sound pos M → Alone pos M u
     → Behind pos M u s → Serves pos M (pos u) i → (i ≡ 0 → ⊥)
     → A u .has (M .copy i .serial) ≡ true → Means pos M A
-    → Means pos (setNumber pos u s i n w M) (instead A u (wrote (M .copy i .serial) (number n) (Number w) (A u)))
+    → Means pos (setNumber pos u s i n w M) (put A u (wrote (M .copy i .serial) (number n) (Number w) (A u)))
 
 -- a register that holds a copy at the position p: after a split at x it holds the new copy where it held the old one and p stands at
 -- x or behind; the copy serves p, and its node is the same
