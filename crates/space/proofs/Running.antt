@@ -120,11 +120,11 @@ except-same c i g h e = elim (cases-eq i c) [ inl q ↦ rw (eq-eqb i c q) (le-re
 except-zero : (c i : ℕ) (g : ℕ → ℕ) → g i ≡ 0 → except c g i ≡ 0
 except-zero c i g e = elim (cases-eq i c) [ inl q ↦ rw (eq-eqb i c q) refl | inr q ↦ rw (ne-eqb i c q) e ]
 
-setAll-total : (pos : ℕ → ℕ) (u s : ℕ) (more : ℕ → Bool) (ws : List FieldWrite) (M : Copies) → setAll pos u s more ws M .total ≡ M .total
+pub setAll-total : (pos : ℕ → ℕ) (u s : ℕ) (more : ℕ → Bool) (ws : List FieldWrite) (M : Copies) → setAll pos u s more ws M .total ≡ M .total
 setAll-total pos u s more [] M = refl
 setAll-total pos u s more (w ∷ ws) M = setAll-total pos u s more ws (setField pos u s (more (w .copy)) (w .copy) (w .field) (w .value) M)
 
-setAll-made : (pos : ℕ → ℕ) (u s : ℕ) (more : ℕ → Bool) (ws : List FieldWrite) (M : Copies) → setAll pos u s more ws M .made ≡ M .made
+pub setAll-made : (pos : ℕ → ℕ) (u s : ℕ) (more : ℕ → Bool) (ws : List FieldWrite) (M : Copies) → setAll pos u s more ws M .made ≡ M .made
 setAll-made pos u s more [] M = refl
 setAll-made pos u s more (w ∷ ws) M = setAll-made pos u s more ws (setField pos u s (more (w .copy)) (w .copy) (w .field) (w .value) M)
 

@@ -289,7 +289,7 @@ setField-serial pos u s more i f w M j =
       | inr n ↦ rw (ne-eqb j i n) refl
     ]
 
-setAll-serial : (pos : ℕ → ℕ) (u s : ℕ) (more : ℕ → Bool) (ws : List FieldWrite) (M : Copies) (j : ℕ) → setAll pos u s more ws M .copy j .serial ≡ M .copy j .serial
+pub setAll-serial : (pos : ℕ → ℕ) (u s : ℕ) (more : ℕ → Bool) (ws : List FieldWrite) (M : Copies) (j : ℕ) → setAll pos u s more ws M .copy j .serial ≡ M .copy j .serial
 setAll-serial pos u s more [] M j = refl
 setAll-serial pos u s more (w ∷ ws) M j =
     setAll-serial pos u s more ws (setField pos u s (more (w .copy)) (w .copy) (w .field) (w .value) M) j
@@ -302,7 +302,7 @@ setField-key pos u s more i f w M j =
       | inr n ↦ rw (ne-eqb j i n) refl
     ]
 
-setAll-key : (pos : ℕ → ℕ) (u s : ℕ) (more : ℕ → Bool) (ws : List FieldWrite) (M : Copies) (j : ℕ) → setAll pos u s more ws M .copy j .key ≡ M .copy j .key
+pub setAll-key : (pos : ℕ → ℕ) (u s : ℕ) (more : ℕ → Bool) (ws : List FieldWrite) (M : Copies) (j : ℕ) → setAll pos u s more ws M .copy j .key ≡ M .copy j .key
 setAll-key pos u s more [] M j = refl
 setAll-key pos u s more (w ∷ ws) M j =
     setAll-key pos u s more ws (setField pos u s (more (w .copy)) (w .copy) (w .field) (w .value) M) j
