@@ -1,15 +1,14 @@
 -- How many entries are left by a write, a renaming and a split.
-use mathlib.Core.Path.{_≡_, refl, sym, ap, subst, _∙_}
-use mathlib.Core.List.{List, [], _∷_, _++_}
-use mathlib.Core.Bool.{Bool, true, false, cond}
-use mathlib.Core.Logic.{_⊎_, inl, inr}
+use mathlib.Core.Path.{_≡_, refl, ap, _∙_}
+use mathlib.Core.List.{List, [], _∷_}
+use mathlib.Core.Bool.{Bool}
+use mathlib.Core.Logic.{inl, inr}
 use Prim.Native.Nat.{ℕ, zero, suc, _+_, _-_, _/_, _≤_, _<_}
 use native.Mathlib.Nat.{le-refl, le-of-suc-le-suc, not-suc-le-zero}
 use native.Mathlib.Omega.{arith}
-use lib.Dec.{eqb, leb, ltb}
 use lib.ListN.{length}
-use Rattle.std.proofs.shelf.Tests.{cases-lt, cases-bool, cases-eq, lt-ltb, le-ltb}
-use Rattle.entries.specs.Entries.{Entry, both, hits, sets, has, entry, read, AllFrom, Sorted, entriesBefore, entriesBehind, Lacks, Single, put, keep, mapped, renamed}
+use Rattle.std.proofs.shelf.Tests.{cases-bool}
+use Rattle.entries.specs.Entries.{Entry, read, AllFrom, Sorted, entriesBefore, entriesBehind, put, keep, mapped, renamed}
 use Rattle.entries.proofs.Writing.{behind-put}
 use Rattle.entries.specs.Counts.{versionAt, Split-halves, Put-adds, Renamed-adds}
 

@@ -2,13 +2,13 @@
 use mathlib.Core.Path.{_≡_, refl, sym, ap, subst, _∙_}
 use mathlib.Core.List.{List, [], _∷_}
 use mathlib.Core.Bool.{Bool, true, false, cond}
-use mathlib.Core.Logic.{_⊎_, inl, inr}
+use mathlib.Core.Logic.{inl, inr}
 use Prim.Native.Nat.{ℕ, suc, _≤_, _<_}
 use native.Mathlib.Nat.{le-refl}
 use native.Mathlib.Omega.{arith}
-use lib.Dec.{eqb, leb, ltb}
-use Rattle.std.proofs.shelf.Tests.{cases-lt, cases-bool, cases-eq}
-use Rattle.entries.specs.Entries.{Entry, both, hits, entry, read, AllFrom, Sorted, Single, Lacks, entriesBehind, mapped, renamed}
+use lib.Dec.{eqb, leb}
+use Rattle.std.proofs.shelf.Tests.{cases-bool}
+use Rattle.entries.specs.Entries.{Entry, both, hits, entry, read, AllFrom, Sorted, Single, Lacks, mapped, renamed}
 
 -- no entry of f at or before q
 read-none : {V : Type 0} (pos : ℕ → ℕ) (f q : ℕ) (a : V) (es : List (Entry V)) → AllFrom pos q es → Lacks pos f q es → read pos f q a es ≡ a

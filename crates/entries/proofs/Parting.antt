@@ -1,14 +1,13 @@
 -- Entry lists parted at a position: what is read of each part, and what the parts keep.
-use mathlib.Core.Path.{_≡_, refl, sym, ap, subst, _∙_}
-use mathlib.Core.List.{List, [], _∷_, _++_}
-use mathlib.Core.Bool.{Bool, true, false, cond}
-use mathlib.Core.Logic.{_⊎_, inl, inr}
-use Prim.Native.Nat.{ℕ, suc, _+_, _≤_, _<_}
-use native.Mathlib.Nat.{le-refl}
+use mathlib.Core.Path.{_≡_, refl}
+use mathlib.Core.List.{List, [], _∷_}
+use mathlib.Core.Bool.{cond}
+use mathlib.Core.Logic.{inl, inr}
+use Prim.Native.Nat.{ℕ, suc, _≤_, _<_}
 use native.Mathlib.Omega.{arith}
-use lib.Dec.{eqb, leb, ltb}
+use lib.Dec.{ltb}
 use Rattle.std.proofs.shelf.Tests.{cases-lt, cases-bool}
-use Rattle.entries.specs.Entries.{Entry, both, hits, read, AllFrom, Sorted, Lacks, Single, entriesBefore, entriesBehind, Split-reads}
+use Rattle.entries.specs.Entries.{Entry, hits, read, AllFrom, Sorted, Lacks, Single, entriesBefore, entriesBehind, Split-reads}
 
 -- up to p, entries behind p do not tell
 pub read-late : {V : Type 0} (pos : ℕ → ℕ) (f p : ℕ) (a : V) (es : List (Entry V)) → AllFrom pos (suc p) es → read pos f p a es ≡ a

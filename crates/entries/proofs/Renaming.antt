@@ -1,15 +1,14 @@
 -- A field renamed from a version on: what is read afterwards, and that order and singleness stay.
 use mathlib.Core.Path.{_≡_, refl, sym, ap, subst, _∙_}
-use mathlib.Core.List.{List, [], _∷_, _++_}
-use mathlib.Core.Bool.{Bool, true, false, cond}
+use mathlib.Core.List.{List, [], _∷_}
+use mathlib.Core.Bool.{Bool, false, cond}
 use mathlib.Core.Logic.{_⊎_, inl, inr}
-use Prim.Native.Nat.{ℕ, suc, _+_, _≤_, _<_}
-use native.Mathlib.Nat.{le-refl}
+use Prim.Native.Nat.{ℕ, _≤_, _<_}
 use native.Mathlib.Omega.{arith}
-use lib.Dec.{eqb, leb, ltb}
-use Rattle.std.proofs.shelf.Tests.{cases-lt, cases-bool, cases-eq, lt-ltb, le-ltb}
-use Rattle.entries.specs.Entries.{Entry, both, hits, sets, has, entry, read, AllFrom, Sorted, entriesBefore, entriesBehind, Lacks, Single, put, keep, mapped, renamed, Renamed-reads}
-use Rattle.entries.proofs.Parting.{read-late, from-weaken, behind-all, read-behind, read-before}
+use lib.Dec.{eqb, leb}
+use Rattle.std.proofs.shelf.Tests.{cases-bool}
+use Rattle.entries.specs.Entries.{Entry, both, hits, entry, read, AllFrom, Sorted, entriesBehind, Lacks, Single, mapped, renamed, Renamed-reads}
+use Rattle.entries.proofs.Parting.{read-behind}
 use Rattle.entries.proofs.Writing.{put-before, put-other, put-behind, sorted-put, single-put, from-put}
 
 pub mapped-before : {V : Type 0} (pos : ℕ → ℕ) (r : V → V) (f g x p : ℕ) (a : V) (es : List (Entry V)) → p < x

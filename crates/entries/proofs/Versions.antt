@@ -1,13 +1,11 @@
 -- What holds of the version of each entry goes over to lists that are written, renamed and parted.
-use mathlib.Core.Path.{_≡_, refl, sym, ap, subst, _∙_}
 use mathlib.Core.List.{List, [], _∷_}
-use mathlib.Core.Bool.{Bool, true, false, cond}
-use mathlib.Core.Logic.{_⊎_, inl, inr}
-use Prim.Native.Nat.{ℕ, suc, _≤_, _<_}
+use mathlib.Core.Logic.{inl, inr}
+use Prim.Native.Nat.{ℕ, _<_}
 use native.Mathlib.Omega.{arith}
 use lib.Dec.{eqb, leb, ltb}
 use Rattle.std.proofs.shelf.Tests.{cases-bool}
-use Rattle.entries.specs.Entries.{Entry, both, sets, entry, read, put, mapped, entriesBefore, entriesBehind, EachVersion}
+use Rattle.entries.specs.Entries.{Entry, both, sets, put, mapped, entriesBefore, entriesBehind, EachVersion}
 
 pub each-like : {V : Type 0} (P Q : ℕ → Type 0) (es : List (Entry V)) → ((v : ℕ) → P v → Q v) → EachVersion P es → EachVersion Q es
 each-like P Q [] g h = tt

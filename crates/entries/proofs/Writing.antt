@@ -1,15 +1,15 @@
 -- Entries that are written and added: what is read afterwards, and that order and singleness stay.
-use mathlib.Core.Path.{_≡_, refl, sym, ap, subst, _∙_}
-use mathlib.Core.List.{List, [], _∷_, _++_}
-use mathlib.Core.Bool.{Bool, true, false, cond}
-use mathlib.Core.Logic.{_⊎_, inl, inr}
-use Prim.Native.Nat.{ℕ, suc, _+_, _≤_, _<_}
+use mathlib.Core.Path.{_≡_, refl, subst, _∙_}
+use mathlib.Core.List.{List, [], _∷_}
+use mathlib.Core.Bool.{true, false, cond}
+use mathlib.Core.Logic.{inl, inr}
+use Prim.Native.Nat.{ℕ, suc, _≤_, _<_}
 use native.Mathlib.Nat.{le-refl}
 use native.Mathlib.Omega.{arith}
-use lib.Dec.{eqb, leb, ltb}
-use Rattle.std.proofs.shelf.Tests.{cases-lt, cases-bool, cases-eq, lt-ltb, le-ltb}
-use Rattle.entries.specs.Entries.{Entry, both, hits, sets, has, entry, read, AllFrom, Sorted, entriesBefore, entriesBehind, Lacks, Single, put, keep, EachVersion, Put-reads, Keep-reads}
-use Rattle.entries.proofs.Parting.{read-late, from-weaken, behind-all, read-behind, read-before}
+use lib.Dec.{ltb}
+use Rattle.std.proofs.shelf.Tests.{cases-lt, cases-bool}
+use Rattle.entries.specs.Entries.{Entry, hits, sets, has, read, AllFrom, Sorted, entriesBehind, Lacks, Single, put, keep, Put-reads, Keep-reads}
+use Rattle.entries.proofs.Parting.{from-weaken, behind-all, read-behind}
 
 pub put-before : {V : Type 0} (pos : ℕ → ℕ) (f g u p : ℕ) (w a : V) (es : List (Entry V)) → p < pos u
     → Single pos es → read pos g p a (put pos f u w es) ≡ read pos g p a es

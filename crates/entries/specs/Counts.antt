@@ -3,9 +3,8 @@
 --   versionAt       the version of an entry, by its number
 --   Split-halves    a list of more than 18 entries, parted at the version of its middle entry
 --   Put-adds, Renamed-adds    at most one entry comes in, and none is lost
-use mathlib.Core.Path.{_≡_}
 use mathlib.Core.List.{List, [], _∷_}
-use mathlib.Core.Bool.{Bool, true, false, cond}
+use mathlib.Core.Bool.{Bool, cond}
 use Prim.Native.Nat.{ℕ, zero, suc, _+_, _-_, _/_, _≤_, _<_}
 use lib.ListN.{length}
 use Rattle.fields.specs.declared.kinds.Value.{Value}

@@ -1,27 +1,26 @@
 -- States of the abstract memory as graphs by serial numbers: what a birth and a write do to them.
 use mathlib.Core.Path.{_≡_, refl, sym, ap, subst, _∙_}
-use mathlib.Core.List.{List}
-use mathlib.Core.Bool.{Bool, true, false, cond}
-use mathlib.Core.Logic.{_⊎_, inl, inr}
-use Prim.Native.Nat.{ℕ, zero, suc, _+_, _-_, _≤_, _<_}
+use mathlib.Core.Bool.{true, cond}
+use mathlib.Core.Logic.{inl, inr}
+use Prim.Native.Nat.{ℕ, zero, suc, _+_, _-_, _<_}
 use native.Mathlib.Omega.{arith}
 use lib.Dec.{eqb, ltb}
 use Rattle.std.proofs.shelf.Tests.{cases-lt, cases-bool, cases-eq, eq-eqb, ne-eqb, lt-ltb, le-ltb}
 use Rattle.std.specs.Options.{isSome}
 use Rattle.std.specs.declared.option.Option.{Option}
-use Rattle.std.specs.declared.option.Option.the-variants.{Some, None}
+use Rattle.std.specs.declared.option.Option.the-variants.{Some}
 use Rattle.fields.specs.declared.kinds.Value.{Value}
-use Rattle.fields.specs.declared.kinds.Value.the-variants.{Number, Nil, To, From}
-use Rattle.fields.specs.Fields.{number, Shown}
+use Rattle.fields.specs.declared.kinds.Value.the-variants.{Number, Nil}
+use Rattle.fields.specs.Fields.{number}
 use Rattle.order.specs.Items.{position}
 use Rattle.memory.specs.Memory.{Node, State, Memory, put, withLink, withNumber, newNode, stateOf}
 use Rattle.memory.specs.Steps.{rootSet, linkSet, nodeSet}
 use Rattle.memory.proofs.Numbers.{put-same, put-other}
 use Rattle.slices.specs.Slices.{withValue}
-use Rattle.slices.specs.Copies.{Copies, Serves}
+use Rattle.slices.specs.Copies.{Copies}
 use Rattle.slices.specs.Births.{firstValues}
 use Rattle.slices.proofs.Cells.{with-same, with-other}
-use Rattle.states.specs.Nodes.{NodeState, Shows, Means, withNode, wrote}
+use Rattle.states.specs.Nodes.{NodeState, Shows, withNode, wrote}
 use Rattle.space.specs.Runs.{World, Kept}
 use Rattle.meaning.specs.Meaning.{ref, fieldOf, nodeFields, nodeKey, graphHas, graphKey, graphGet, graphOf}
 

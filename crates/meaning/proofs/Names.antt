@@ -1,8 +1,7 @@
 -- The number of names of a node is at least two exactly when two links or roots of the state name it; so a third link is refused by both
 -- memories alike.
 use mathlib.Core.Path.{_≡_, refl, sym, ap, subst, _∙_}
-use mathlib.Core.List.{List}
-use mathlib.Core.Bool.{Bool, true, false, cond}
+use mathlib.Core.Bool.{Bool, true, false}
 use mathlib.Core.Logic.{_⊎_, inl, inr}
 use Prim.Native.Nat.{ℕ, zero, suc, _+_, _-_, _≤_, _<_}
 use native.Mathlib.Omega.{arith}
@@ -12,16 +11,14 @@ use Rattle.std.proofs.shelf.Tests.{cases-lt, cases-bool, cases-eq, eq-eqb, ne-e
 use Rattle.std.specs.Options.{isSome}
 use Rattle.std.specs.declared.option.Option.{Option}
 use Rattle.std.specs.declared.option.Option.the-variants.{Some, None}
-use Rattle.fields.specs.declared.kinds.Value.{Value}
-use Rattle.fields.specs.declared.kinds.Value.the-variants.{Number, Nil, To, From}
+use Rattle.fields.specs.declared.kinds.Value.the-variants.{Number, Nil, To}
 use Rattle.fields.specs.Fields.{Shown}
-use Rattle.memory.specs.Memory.{Node, State, hits, renamed, namesOf, sumTo, nodeHits, count, Orderly}
+use Rattle.memory.specs.Memory.{Node, State, hits, renamed, sumTo, nodeHits, count, Orderly}
 use Rattle.memory.proofs.Numbers.{hits-one, hits-some, sum-part}
 use Rattle.memory.proofs.Kept.{low}
-use Rattle.slices.specs.Slices.{withValue}
-use Rattle.slices.proofs.Cells.{with-cases, with-same, with-other}
+use Rattle.slices.proofs.Cells.{with-cases, with-other}
 use Rattle.states.specs.Relinks.{not}
-use Rattle.states.specs.Nodes.{NodeState, wrote}
+use Rattle.states.specs.Nodes.{wrote}
 use Rattle.states.specs.Listed.{TwoNames}
 use Rattle.states.proofs.Linking.{clash-to, to-same}
 use Rattle.meaning.specs.Meaning.{ref, fieldOf, nodeFields, graphHas, graphGet, graphOf}

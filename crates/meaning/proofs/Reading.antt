@@ -1,41 +1,38 @@
 -- The calls that read: a splitting memory answers as the abstract memory does.
 use mathlib.Core.Path.{_≡_, refl, sym, ap, subst, _∙_}
-use mathlib.Core.List.{List, [], _∷_}
-use mathlib.Core.Bool.{Bool, true, false, cond}
-use mathlib.Core.Logic.{_⊎_, inl, inr}
-use Prim.Native.Nat.{ℕ, zero, suc, _+_, _-_, _≤_, _<_}
+use mathlib.Core.List.{List}
+use mathlib.Core.Bool.{Bool, true, false}
+use mathlib.Core.Logic.{inl, inr}
+use Prim.Native.Nat.{ℕ, suc, _+_, _-_, _<_}
 use native.Mathlib.Omega.{arith}
-use lib.Dec.{eqb, ltb, leb}
+use lib.Dec.{ltb}
 use lib.ListN.{length}
-use Rattle.std.proofs.shelf.Tests.{cases-lt, cases-bool, cases-eq, eq-eqb, ne-eqb, lt-ltb, le-ltb}
+use Rattle.std.proofs.shelf.Tests.{cases-eq, eq-eqb, ne-eqb, lt-ltb, le-ltb}
 use Rattle.std.specs.Options.{isSome}
 use Rattle.std.specs.declared.option.Option.{Option}
 use Rattle.std.specs.declared.option.Option.the-variants.{Some, None}
 use Rattle.refusals.specs.declared.kinds.MemoryRefusal.{MemoryRefusal}
-use Rattle.refusals.specs.declared.kinds.MemoryRefusal.the-variants.{OutOfRange, NilRegister}
+use Rattle.refusals.specs.declared.kinds.MemoryRefusal.the-variants.{OutOfRange}
 use Rattle.fields.specs.declared.kinds.Value.{Value}
 use Rattle.fields.specs.declared.kinds.Value.the-variants.{Number, Nil, To, From}
 use Rattle.fields.specs.Fields.{number, Shown}
-use Rattle.order.specs.Items.{member, known, position}
-use Rattle.memory.specs.Memory.{Node, State, Memory, put, stateOf, Orderly, Sound}
-use Rattle.memory.specs.Steps.{Done, done, no, onNode, onRef, atNode, isNil, sameRef, withReg, loadOf, followOf, moveOf, keyOf, numberOf, nilOf, sameOf}
+use Rattle.order.specs.Items.{known, position}
+use Rattle.memory.specs.Memory.{Node, State, Memory, stateOf, Sound}
+use Rattle.memory.specs.Steps.{Done, done, onNode, onRef, atNode, isNil, sameRef, withReg, loadOf, followOf, moveOf, keyOf, numberOf, nilOf, sameOf}
 use Rattle.memory.specs.Steps.{check as checkOf}
-use Rattle.memory.specs.Calls.{Call, left, after}
+use Rattle.memory.specs.Calls.{left, after}
 use Rattle.memory.specs.Calls.Call.{Load, Follow, Move}
-use Rattle.memory.specs.Effects.{Holds}
-use Rattle.memory.proofs.Each.{Present, here}
 use Rattle.memory.proofs.Kept.{stays-sound}
 use Rattle.memory.proofs.Accepted.{load-done, follow-done, move-done}
-use Rattle.slices.specs.Copies.{Copies, valueAt, Serves, Shaped}
+use Rattle.slices.specs.Copies.{Copies, Serves, Shaped}
 use Rattle.slices.proofs.Serving.{lt-is}
 use Rattle.slices.proofs.Bearing.{one-only}
-use Rattle.states.specs.Nodes.{NodeState, bySerial, Shows}
-use Rattle.states.proofs.Linking.{clash-to, to-same}
+use Rattle.states.specs.Nodes.{bySerial, Shows}
+use Rattle.states.proofs.Linking.{to-same}
 use Rattle.states.proofs.Places.{positions-stand}
-use Rattle.space.specs.Runs.{Kept}
-use Rattle.meaning.specs.Tables.{Splitting, Step, did, refused, check, onCopy, atCopy, readOf, target, numeral, loadIn, followIn, moveIn, keyIn, numberIn, nilIn, sameIn}
+use Rattle.meaning.specs.Tables.{Splitting, Step, check, onCopy, atCopy, readOf, target, numeral, loadIn, followIn, moveIn, keyIn, numberIn, nilIn, sameIn}
 use Rattle.meaning.specs.Tables.{withReg as regSet}
-use Rattle.meaning.specs.Meaning.{ref, fieldOf, nodeFields, nodeKey, graphHas, graphKey, graphGet, graphOf, worldOf, RegisterHolds, Stands, Agrees, Reads-agree}
+use Rattle.meaning.specs.Meaning.{ref, fieldOf, nodeFields, nodeKey, graphHas, graphKey, graphGet, graphOf, RegisterHolds, Stands, Agrees, Reads-agree}
 
 -- one condition, the same on both sides
 pub agree-check : {A : Type 0} (xs : List ℕ) (b c : Bool) (e : MemoryRefusal) (s : Step A) (d : Done A) → b ≡ c → (b ≡ true → Agrees xs s d)

@@ -1,25 +1,24 @@
 -- The calls on versions, and the fresh memory.
 use mathlib.Core.Path.{_≡_, refl, sym, ap, subst, _∙_}
-use mathlib.Core.List.{List, [], _∷_}
-use mathlib.Core.Bool.{Bool, true, false, cond}
-use mathlib.Core.Logic.{_⊎_, inl, inr}
-use Prim.Native.Nat.{ℕ, zero, suc, _+_, _≤_, _<_}
+use mathlib.Core.List.{List}
+use mathlib.Core.Bool.{Bool, true, false}
+use mathlib.Core.Logic.{inl, inr}
+use Prim.Native.Nat.{ℕ, zero, suc, _<_}
 use native.Mathlib.Omega.{arith}
 use native.Mathlib.Nat.{le-refl}
 use lib.Dec.{eqb, ltb}
 use lib.ListN.{length}
-use Rattle.std.proofs.shelf.Tests.{cases-lt, cases-bool, cases-eq, eq-eqb, ne-eqb, lt-ltb, le-ltb}
+use Rattle.std.proofs.shelf.Tests.{cases-bool, cases-eq, eq-eqb, ne-eqb, lt-ltb, le-ltb}
 use Rattle.std.specs.declared.option.Option.{Option}
 use Rattle.std.specs.declared.option.Option.the-variants.{Some, None}
 use Rattle.refusals.specs.declared.kinds.OrderRefusal.the-variants.{UnknownItem, Full}
 use Rattle.refusals.specs.declared.kinds.MemoryRefusal.{MemoryRefusal}
 use Rattle.refusals.specs.declared.kinds.MemoryRefusal.the-variants.{DraftOpen, NoDraft, Order}
-use Rattle.fields.specs.declared.kinds.Value.the-variants.{Number, Nil, To, From}
-use Rattle.order.specs.Items.{member, known, position, behind}
+use Rattle.order.specs.Items.{known, position, behind}
 use Rattle.memory.specs.Memory.{Memory, put, stateOf, emptyState, fresh, Sound}
-use Rattle.memory.specs.Steps.{Done, done, isNil, isHeld, opened, entered, closed, openOf, enterOf, closeOf}
+use Rattle.memory.specs.Steps.{Done, done, isNil, isHeld, opened, entered, openOf, enterOf, closeOf}
 use Rattle.memory.specs.Steps.{check as checkOf}
-use Rattle.memory.specs.Calls.{Call, left, after}
+use Rattle.memory.specs.Calls.{left, after}
 use Rattle.memory.specs.Calls.Call.{Open, Enter, Close}
 use Rattle.memory.proofs.Kept.{stays-sound, fresh-sound, entered-state, opened-state, opened-new}
 use Rattle.memory.proofs.Accepted.{open-done, enter-done, close-done}
@@ -28,13 +27,12 @@ use Rattle.slices.specs.Openings.{up, down}
 use Rattle.slices.specs.Openings.{opened as openedCopies}
 use Rattle.slices.proofs.Serving.{lt-is}
 use Rattle.slices.proofs.Opening.{open-sound, down-up}
-use Rattle.states.specs.Nodes.{NodeState}
 use Rattle.states.proofs.Places.{positions-stand, member-far}
-use Rattle.space.specs.Runs.{World, Kept, freshState, freshCopies}
+use Rattle.space.specs.Runs.{freshState}
 use Rattle.space.specs.Runs.Move.{opening}
 use Rattle.space.proofs.Running.{step-keeps, fresh-kept}
-use Rattle.meaning.specs.Tables.{Splitting, Step, did, check, withDraft, openIn, enterIn, closeIn}
-use Rattle.meaning.specs.Meaning.{graphHas, graphOf, worldOf, RegisterHolds, Stands, Agrees, itemsOf, freshTables, Fresh-stands, Versions-agree}
+use Rattle.meaning.specs.Tables.{Splitting, Step, check, withDraft, openIn, enterIn, closeIn}
+use Rattle.meaning.specs.Meaning.{graphOf, worldOf, RegisterHolds, Stands, Agrees, itemsOf, Fresh-stands, Versions-agree}
 use Rattle.meaning.proofs.Graphs.{Alike, alike-self, kept-alike}
 use Rattle.meaning.proofs.Reading.{agree-check, works-here}
 

@@ -2,25 +2,24 @@
 use mathlib.Core.Path.{_≡_, refl, sym, ap, subst, _∙_}
 use mathlib.Core.List.{List, [], _∷_}
 use mathlib.Core.Bool.{Bool, true, false, cond}
-use mathlib.Core.Logic.{_⊎_, inl, inr}
-use Prim.Native.Nat.{ℕ, zero, suc, _+_, _-_, _*_, _≤_, _<_}
+use mathlib.Core.Logic.{inl, inr}
+use Prim.Native.Nat.{ℕ, suc, _+_, _-_, _<_}
 use native.Mathlib.Omega.{arith}
-use lib.Dec.{eqb, ltb, leb}
-use lib.ListN.{length}
-use Rattle.std.proofs.shelf.Tests.{cases-lt, cases-bool, cases-eq, eq-eqb, ne-eqb, lt-ltb, le-ltb}
+use lib.Dec.{ltb, leb}
+use Rattle.std.proofs.shelf.Tests.{cases-lt, cases-eq, eq-eqb, ne-eqb}
 use Rattle.std.specs.Options.{isSome}
 use Rattle.std.specs.declared.option.Option.{Option}
 use Rattle.std.specs.declared.option.Option.the-variants.{Some, None}
 use Rattle.refusals.specs.declared.kinds.MemoryRefusal.the-variants.{OutOfRange, OutsideDraft, ChangesSpent, NodesSpent, ThirdName}
 use Rattle.fields.specs.declared.kinds.Value.{Value}
-use Rattle.fields.specs.declared.kinds.Value.the-variants.{Number, Nil, To, From}
+use Rattle.fields.specs.declared.kinds.Value.the-variants.{Number, Nil, To}
 use Rattle.fields.specs.Fields.{number, HasLink}
 use Rattle.order.specs.Items.{position, following}
-use Rattle.memory.specs.Memory.{Node, State, Memory, changed, put, withNumber, newNode, namesOf, renamed, stateOf, isDraft, Orderly, Sound}
+use Rattle.memory.specs.Memory.{Node, State, Memory, changed, withNumber, newNode, namesOf, renamed, stateOf, isDraft, Orderly, Sound}
 use Rattle.memory.specs.Steps.{Done, done, written, ofLink, ofNumber, rootSet, linkSet, nodeSet, born, makeOf, saveOf, linkOf, setNumberOf}
-use Rattle.memory.specs.Calls.{Call, left, after}
+use Rattle.memory.specs.Calls.{left, after}
 use Rattle.memory.specs.Calls.Call.{Make, Save, Link, SetNumber}
-use Rattle.memory.specs.Effects.{Holds, Free}
+use Rattle.memory.specs.Effects.{Free}
 use Rattle.memory.proofs.Each.{here}
 use Rattle.memory.proofs.Kept.{stays-sound, orderly-root, orderly-link}
 use Rattle.memory.proofs.Accepted.{make-done, save-done, link-done, set-number-done}
@@ -35,12 +34,11 @@ use Rattle.states.specs.Listed.{TwoNames, nextOf}
 use Rattle.states.proofs.Relinking.{relink-sound, setNumber-sound}
 use Rattle.states.proofs.Meaning.{setAll-serial, split-register}
 use Rattle.states.proofs.Listing.{behind-listed, third-link}
-use Rattle.space.specs.Space.{size, splitVersion}
-use Rattle.space.specs.Runs.{World, Kept, Spaced}
+use Rattle.space.specs.Space.{splitVersion}
 use Rattle.space.specs.Runs.Move.{making, linking, numbering, splitting}
 use Rattle.space.proofs.Counting.{split-version-fits}
 use Rattle.space.proofs.Running.{step-keeps, kept-spaced, setAll-made}
-use Rattle.meaning.specs.Tables.{Splitting, Step, did, naming, roomFor, made, numberSet, makeIn, saveIn, linkIn, setNumberIn, splitIn, renamedReg}
+use Rattle.meaning.specs.Tables.{Splitting, naming, roomFor, made, numberSet, makeIn, saveIn, linkIn, setNumberIn, splitIn, renamedReg}
 use Rattle.meaning.specs.Tables.{linkSet as linkSetIn}
 use Rattle.meaning.specs.Meaning.{ref, graphHas, graphOf, worldOf, RegisterHolds, Stands, Agrees, Writes-agree, Split-stands, Stands-spaced}
 use Rattle.meaning.proofs.Graphs.{Alike, states-at, kept-alike, born-alike, link-alike, number-alike, root-alike}

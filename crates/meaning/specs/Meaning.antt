@@ -11,16 +11,16 @@
 --   Stands-spaced    the bounds on copies and entries
 use mathlib.Core.Path.{_≡_}
 use mathlib.Core.List.{List, [], _∷_}
-use mathlib.Core.Bool.{Bool, true, false, cond}
+use mathlib.Core.Bool.{Bool, true, cond}
 use Prim.Native.Nat.{ℕ, zero, suc, _+_, _-_, _*_, _≤_, _<_}
-use lib.Dec.{eqb, ltb}
+use lib.Dec.{ltb}
 use lib.ListN.{length}
 use Rattle.std.specs.Options.{isSome}
 use Rattle.std.specs.declared.option.Option.{Option}
 use Rattle.std.specs.declared.option.Option.the-variants.{Some, None}
 use Rattle.fields.specs.declared.kinds.Value.{Value}
-use Rattle.fields.specs.declared.kinds.Value.the-variants.{Number, Nil, To, From}
-use Rattle.order.specs.Items.{member, Distinct, known, position, behind}
+use Rattle.fields.specs.declared.kinds.Value.the-variants.{Number, Nil, To}
+use Rattle.order.specs.Items.{position, behind}
 use Rattle.memory.specs.Memory.{Node, State, Memory, changed, stateOf, fresh, Sound}
 use Rattle.memory.specs.Steps.{Done, done, no, loadOf, followOf, moveOf, keyOf, numberOf, nilOf, sameOf, makeOf, saveOf, linkOf, setNumberOf, openOf, enterOf, closeOf}
 use Rattle.slices.specs.Copies.{Copies, Serves}

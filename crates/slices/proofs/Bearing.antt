@@ -1,23 +1,20 @@
 -- Making a node; a born serial number has exactly one serving copy.
 use mathlib.Core.Path.{_≡_, refl, sym, ap, subst, _∙_}
-use mathlib.Core.List.{List, [], _∷_}
-use mathlib.Core.Bool.{Bool, true, false, cond}
+use mathlib.Core.Bool.{true}
 use mathlib.Core.Logic.{_⊎_, inl, inr}
 use Prim.Native.Nat.{ℕ, zero, suc, _-_, _≤_, _<_}
 use native.Mathlib.Omega.{arith}
-use native.Mathlib.Nat.{le-refl, not-suc-le-zero}
-use lib.Dec.{eqb, leb, ltb}
-use Rattle.std.proofs.shelf.Tests.{cases-lt, cases-bool, cases-eq, eq-eqb, ne-eqb, le-leb, lt-leb, lt-ltb}
-use Rattle.fields.specs.declared.kinds.Value.{Value}
+use native.Mathlib.Nat.{not-suc-le-zero}
+use Rattle.std.proofs.shelf.Tests.{cases-lt, cases-eq, eq-eqb, ne-eqb, lt-ltb}
 use Rattle.fields.specs.declared.kinds.Value.the-variants.{Number, Nil, To, From}
 use Rattle.std.proofs.shelf.Tests.{le-ltb}
 use Rattle.fields.specs.Fields.{suits}
-use Rattle.entries.specs.Entries.{Entry, EachVersion}
+use Rattle.entries.specs.Entries.{EachVersion}
 use Rattle.entries.proofs.Versions.{each-like}
-use Rattle.slices.specs.Slices.{Coherent, swap}
-use Rattle.slices.specs.Copies.{Copy, Copies, valueAt, Serves, serving, CoherentAt, CopyOk, Decides, Shaped, Sound}
+use Rattle.slices.specs.Slices.{swap}
+use Rattle.slices.specs.Copies.{Copy, Copies, valueAt, Serves, serving, CoherentAt, CopyOk, Shaped, Sound}
 use Rattle.slices.specs.Splits.{split}
-use Rattle.slices.specs.Openings.{opened, up, down}
+use Rattle.slices.specs.Openings.{opened, down}
 use Rattle.slices.specs.Births.{firstValues, newCopy, makeNode, Make-sound, Born, Served, One-serves, Births-stay}
 use Rattle.slices.proofs.Swapping.{swap-swap}
 use Rattle.slices.proofs.Splitting.{split-sound, split-serial, split-swap}

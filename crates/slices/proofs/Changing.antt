@@ -1,20 +1,19 @@
 -- A change of one field of a copy: only its version sees it.
 use mathlib.Core.Path.{_≡_, refl, sym, ap, subst, _∙_}
-use mathlib.Core.List.{List, [], _∷_}
+use mathlib.Core.List.{List}
 use mathlib.Core.Bool.{Bool, true, false, cond}
-use mathlib.Core.Logic.{_⊎_, inl, inr}
-use Prim.Native.Nat.{ℕ, zero, suc, _-_, _≤_, _<_}
+use mathlib.Core.Logic.{inl, inr}
+use Prim.Native.Nat.{ℕ, suc, _-_, _≤_, _<_}
 use native.Mathlib.Omega.{arith}
-use native.Mathlib.Nat.{le-refl, not-suc-le-zero}
-use lib.Dec.{eqb, leb, ltb}
-use Rattle.std.proofs.shelf.Tests.{cases-lt, cases-bool, cases-eq, eq-eqb, ne-eqb, le-leb, lt-leb, lt-ltb}
+use native.Mathlib.Nat.{le-refl}
+use lib.Dec.{eqb}
+use Rattle.std.proofs.shelf.Tests.{cases-lt, cases-eq, eq-eqb, ne-eqb}
 use Rattle.fields.specs.declared.kinds.Value.{Value}
-use Rattle.fields.specs.declared.kinds.Value.the-variants.{Number, Nil, To, From}
-use Rattle.entries.specs.Entries.{Entry, hits, entry, read, AllFrom, Sorted, Single, entriesBehind, put, keep, has, both}
+use Rattle.entries.specs.Entries.{Entry, read, AllFrom, Sorted, Single, entriesBehind, keep, has}
 use Rattle.entries.proofs.Parting.{read-late, behind-all, read-behind}
 use Rattle.entries.proofs.Writing.{put-before, put-other, put-behind, sorted-put, single-put, from-put, sorted-keep, single-keep, from-keep, has-keep, keep-other, keep-reads, has-forgets, has-behind, read-at}
-use Rattle.slices.specs.Copies.{Copy, valueAt, CopyOk}
-use Rattle.slices.specs.Changes.{changed, Changed-reads}
+use Rattle.slices.specs.Copies.{valueAt}
+use Rattle.slices.specs.Changes.{Changed-reads}
 
 record Kept (pos : ℕ → ℕ) (f u s lo : ℕ) (more : Bool) (a : Value) (es K : List (Entry Value)) : Type 0 where
   sorted : Sorted pos K

@@ -2,21 +2,19 @@
 use mathlib.Core.Path.{_≡_, refl, sym, ap, subst, _∙_}
 use mathlib.Core.List.{List, [], _∷_}
 use mathlib.Core.Bool.{Bool, true, false, cond}
-use mathlib.Core.Logic.{_⊎_, inl, inr}
-use Prim.Native.Nat.{ℕ, zero, suc, _-_, _≤_, _<_}
+use mathlib.Core.Logic.{inl, inr}
+use Prim.Native.Nat.{ℕ, suc, _-_, _≤_, _<_}
 use native.Mathlib.Omega.{arith}
-use native.Mathlib.Nat.{le-refl, not-suc-le-zero}
-use lib.Dec.{eqb, leb, ltb}
-use Rattle.std.proofs.shelf.Tests.{cases-lt, cases-bool, cases-eq, eq-eqb, ne-eqb, le-leb, lt-leb, lt-ltb}
+use lib.Dec.{eqb}
+use Rattle.std.proofs.shelf.Tests.{cases-lt, cases-bool, cases-eq, eq-eqb, ne-eqb}
 use Rattle.fields.specs.declared.kinds.Value.{Value}
-use Rattle.fields.specs.declared.kinds.Value.the-variants.{Number, Nil, To, From}
-use Rattle.entries.specs.Entries.{Entry, sets, read, put, keep, has, EachVersion}
+use Rattle.entries.specs.Entries.{keep, has, EachVersion}
 use Rattle.entries.proofs.Versions.{each-like, each-put}
-use Rattle.slices.specs.Slices.{Coherent, withValue}
-use Rattle.slices.specs.Copies.{Copy, Copies, valueAt, Serves, CopyOk, CoherentAt, Decides, Sound, Shaped}
+use Rattle.slices.specs.Slices.{withValue}
+use Rattle.slices.specs.Copies.{Copy, Copies, valueAt, Serves, CopyOk, CoherentAt, Shaped}
 use Rattle.slices.specs.Changes.{changed, NextServed, setField, SetField-slices, FieldWrite, setAll, withValues, EachTarget, SetAll-sound}
 use Rattle.slices.proofs.Swapping.{good-agree}
-use Rattle.slices.proofs.Cells.{with-cases, with-same, with-other}
+use Rattle.slices.proofs.Cells.{with-cases, with-other}
 use Rattle.slices.proofs.Changing.{changed-reads}
 
 module _ (pos : ℕ → ℕ) (M : Copies) (u s i f : ℕ) (more : Bool) (w : Value) (S : Shaped pos M) (sv : Serves pos M (pos u) i) (next : NextServed pos M u s more i) where

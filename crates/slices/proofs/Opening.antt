@@ -1,18 +1,13 @@
 -- A version comes in: every slice goes with its version.
 use mathlib.Core.Path.{_≡_, refl, sym, ap, subst, _∙_}
 use mathlib.Core.List.{List, [], _∷_}
-use mathlib.Core.Bool.{Bool, true, false, cond}
-use mathlib.Core.Logic.{_⊎_, inl, inr}
-use Prim.Native.Nat.{ℕ, zero, suc, _-_, _≤_, _<_}
+use mathlib.Core.Bool.{Bool, cond}
+use Prim.Native.Nat.{ℕ, suc, _-_, _≤_, _<_}
 use native.Mathlib.Omega.{arith}
-use native.Mathlib.Nat.{le-refl, not-suc-le-zero}
-use lib.Dec.{eqb, leb, ltb}
-use Rattle.std.proofs.shelf.Tests.{cases-lt, cases-bool, cases-eq, eq-eqb, ne-eqb, le-leb, lt-leb, lt-ltb}
+use lib.Dec.{eqb, leb}
 use Rattle.fields.specs.declared.kinds.Value.{Value}
-use Rattle.fields.specs.declared.kinds.Value.the-variants.{Number, Nil, To, From}
 use Rattle.entries.specs.Entries.{Entry, hits, read, AllFrom, Sorted, Single, Lacks, both, EachVersion}
-use Rattle.slices.specs.Slices.{Coherent}
-use Rattle.slices.specs.Copies.{Copy, Copies, valueAt, Serves, CoherentAt, CopyOk, Shaped, Sound}
+use Rattle.slices.specs.Copies.{Copy, Copies, valueAt, Serves, CopyOk, Shaped}
 use Rattle.slices.specs.Openings.{up, down, opened, Open-sound}
 use Rattle.slices.proofs.Swapping.{good-agree}
 

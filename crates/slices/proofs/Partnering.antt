@@ -1,22 +1,21 @@
 -- A split leaves alone every copy that never names the split one from x on.
-use mathlib.Core.Path.{_≡_, refl, sym, ap, subst, _∙_}
+use mathlib.Core.Path.{_≡_, refl, sym, ap, _∙_}
 use mathlib.Core.List.{List, [], _∷_}
-use mathlib.Core.Bool.{Bool, true, false, cond}
+use mathlib.Core.Bool.{Bool, false, cond}
 use mathlib.Core.Logic.{_⊎_, inl, inr}
-use Prim.Native.Nat.{ℕ, zero, suc, _-_, _≤_, _<_}
+use Prim.Native.Nat.{ℕ, suc, _-_, _≤_, _<_}
 use native.Mathlib.Omega.{arith}
-use native.Mathlib.Nat.{le-refl, not-suc-le-zero}
-use lib.Dec.{eqb, leb, ltb}
-use Rattle.std.proofs.shelf.Tests.{cases-lt, cases-bool, cases-eq, eq-eqb, ne-eqb, le-leb, lt-leb, lt-ltb}
+use native.Mathlib.Nat.{le-refl}
+use lib.Dec.{eqb, leb}
+use Rattle.std.proofs.shelf.Tests.{cases-lt, cases-bool, le-leb, lt-leb}
 use Rattle.fields.specs.declared.kinds.Value.{Value}
-use Rattle.fields.specs.declared.kinds.Value.the-variants.{Number, Nil, To, From}
-use Rattle.entries.specs.Entries.{Entry, hits, read, AllFrom, Sorted, Single, mapped, renamed, both, EachVersion}
+use Rattle.entries.specs.Entries.{Entry, hits, read, Sorted, Single, mapped, renamed, both, EachVersion}
 use Rattle.entries.proofs.Parting.{read-late, from-weaken}
 use Rattle.entries.proofs.Idle.{mapped-idle, renamed-idle}
 use Rattle.entries.proofs.Versions.{each-like}
 use Rattle.slices.specs.Slices.{swapped}
-use Rattle.slices.specs.Copies.{Copy, Copies, valueAt, Serves, serving, CopyOk, Decides, Sound}
-use Rattle.slices.specs.Splits.{times, naming, names, renames, maps, renamedCopy, split}
+use Rattle.slices.specs.Copies.{Copy, Copies, valueAt, Serves, serving, Decides, Sound}
+use Rattle.slices.specs.Splits.{times, naming, names, renames, maps, renamedCopy}
 use Rattle.slices.specs.Partners.{Split-idle}
 use Rattle.slices.proofs.Serving.{serving-tells}
 use Rattle.slices.proofs.Splitting.{copy-else, unnamed}

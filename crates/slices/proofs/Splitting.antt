@@ -1,23 +1,21 @@
 -- A split keeps soundness, and every slice but for the places of the two copies.
 use mathlib.Core.Path.{_≡_, refl, sym, ap, subst, _∙_}
 use mathlib.Core.List.{List, [], _∷_}
-use mathlib.Core.Bool.{Bool, true, false, cond}
+use mathlib.Core.Bool.{Bool, true, false}
 use mathlib.Core.Logic.{_⊎_, inl, inr}
-use Prim.Native.Nat.{ℕ, zero, suc, _-_, _≤_, _<_}
+use Prim.Native.Nat.{ℕ, suc, _-_, _≤_, _<_}
 use native.Mathlib.Omega.{arith}
-use native.Mathlib.Nat.{le-refl, not-suc-le-zero}
-use lib.Dec.{eqb, leb, ltb}
-use Rattle.std.proofs.shelf.Tests.{cases-lt, cases-bool, cases-eq, eq-eqb, ne-eqb, le-leb, lt-leb, lt-ltb}
+use lib.Dec.{leb}
+use Rattle.std.proofs.shelf.Tests.{cases-lt, cases-bool, cases-eq, eq-eqb, ne-eqb, le-leb, lt-leb}
 use Rattle.fields.specs.declared.kinds.Value.{Value}
 use Rattle.fields.specs.declared.kinds.Value.the-variants.{Number, Nil, To, From}
-use Rattle.fields.specs.Fields.{suits}
-use Rattle.entries.specs.Entries.{Entry, sets, hits, entry, read, AllFrom, Sorted, Single, Lacks, entriesBefore, entriesBehind, mapped, renamed, put, both, EachVersion}
+use Rattle.entries.specs.Entries.{Entry, read, AllFrom, Sorted, Single, mapped, renamed, EachVersion}
 use Rattle.entries.proofs.Parting.{from-weaken, read-before, read-behind, from-before, late-behind, sorted-before, sorted-behind, single-before, single-behind}
 use Rattle.entries.proofs.Renaming.{renamed-reads, mapped-other, sorted-mapped, single-mapped, from-mapped, mapped-whole, sorted-renamed, single-renamed, from-renamed}
 use Rattle.entries.proofs.Versions.{each-like, each-put, each-mapped, each-before, each-behind}
-use Rattle.slices.specs.Slices.{Coherent, swap, swapped}
+use Rattle.slices.specs.Slices.{swap, swapped}
 use Rattle.slices.specs.Copies.{Copy, Copies, valueAt, Serves, serving, CoherentAt, CopyOk, Decides, Shaped, Sound}
-use Rattle.slices.specs.Splits.{times, naming, names, renames, maps, renamedCopy, frontHalf, backHalf, splitBy, split, Split-sound}
+use Rattle.slices.specs.Splits.{times, naming, names, renames, maps, renamedCopy, frontHalf, backHalf, splitBy, Split-sound}
 use Rattle.slices.proofs.Swapping.{good-swapped, good-agree, swap-swap, suits-far}
 use Rattle.slices.proofs.Serving.{serving-tells}
 

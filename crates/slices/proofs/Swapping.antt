@@ -1,17 +1,14 @@
 -- Two copies exchanged in a slice, and what a field may hold, read off.
-use mathlib.Core.Path.{_≡_, refl, sym, ap, subst, _∙_}
-use mathlib.Core.List.{List, [], _∷_}
-use mathlib.Core.Bool.{Bool, true, false, cond}
+use mathlib.Core.Path.{_≡_, refl, sym, ap, _∙_}
+use mathlib.Core.Bool.{true}
 use mathlib.Core.Logic.{_⊎_, inl, inr}
-use Prim.Native.Nat.{ℕ, zero, suc, _-_, _≤_, _<_}
+use Prim.Native.Nat.{ℕ, _-_, _≤_, _<_}
 use native.Mathlib.Omega.{arith}
-use native.Mathlib.Nat.{le-refl, not-suc-le-zero}
-use lib.Dec.{eqb, leb, ltb}
-use Rattle.std.proofs.shelf.Tests.{cases-lt, cases-bool, cases-eq, eq-eqb, ne-eqb, le-leb, lt-leb, lt-ltb}
+use lib.Dec.{eqb}
 use Rattle.fields.specs.declared.kinds.Value.{Value}
 use Rattle.fields.specs.declared.kinds.Value.the-variants.{Number, Nil, To, From}
-use Rattle.fields.specs.Fields.{suits, isNil, isNumber, isLink, isBack}
-use Rattle.slices.specs.Slices.{Coherent, Coherent-swapped, swap, swapped}
+use Rattle.fields.specs.Fields.{suits, isNil}
+use Rattle.slices.specs.Slices.{Coherent, swap, swapped}
 
 pub swap-swap : (c d i : ℕ) → swap c d (swap c d i) ≡ i
 swap-swap c d i = grind arith
@@ -37,6 +34,11 @@ root-swap c d i n m = grind arith
 
 suits-like : (i j f : ℕ) (v : Value) → eqb i 0 ≡ eqb j 0 → suits i f v ≡ suits j f v
 suits-like i j f v e = rw e
+
+-- a slice is as coherent with two copies of nodes exchanged, wherever they are named
+abbrev Coherent-swapped : Type 1
+Coherent-swapped = (c d : ℕ) (on : ℕ → Type 0) (get : ℕ → ℕ → Value) → (c ≡ 0 → ⊥) → (d ≡ 0 → ⊥) → Coherent on get
+    → Coherent (λ i. on (swap c d i)) (λ i f. swapped c d (get (swap c d i) f))
 
 pub good-swapped : Coherent-swapped
 good-swapped c d on get nc nd g = record {

@@ -6,14 +6,14 @@
 --   One-serves       a born serial number has exactly one serving copy
 --   Births-stay      what each step does to births
 use mathlib.Core.Path.{_≡_}
-use mathlib.Core.List.{List, [], _∷_}
-use mathlib.Core.Bool.{Bool, true, false, cond}
+use mathlib.Core.List.{[]}
+use mathlib.Core.Bool.{cond}
 use mathlib.Core.Logic.{_⊎_}
 use Prim.Native.Nat.{ℕ, suc, _-_, _≤_, _<_}
 use lib.Dec.{eqb, ltb}
 use Rattle.fields.specs.declared.kinds.Value.{Value}
-use Rattle.fields.specs.declared.kinds.Value.the-variants.{Number, Nil, To, From}
-use Rattle.slices.specs.Copies.{Copy, Copies, valueAt, Serves, Sound}
+use Rattle.fields.specs.declared.kinds.Value.the-variants.{Number, Nil}
+use Rattle.slices.specs.Copies.{Copy, Copies, Serves, Sound}
 use Rattle.slices.specs.Splits.{split}
 use Rattle.slices.specs.Openings.{opened, down, up}
 

@@ -13,7 +13,7 @@
 -- serial number s has the serial number s + 1 here. pos gives the position of a version in the order.
 use mathlib.Core.Path.{_≡_}
 use mathlib.Core.List.{List}
-use mathlib.Core.Bool.{Bool, true, false, cond}
+use mathlib.Core.Bool.{Bool, true, cond}
 use Prim.Native.Nat.{ℕ, zero, suc, _≤_, _<_}
 use lib.Dec.{eqb, leb, ltb}
 use Rattle.fields.specs.declared.kinds.Value.{Value}

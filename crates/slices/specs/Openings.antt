@@ -4,7 +4,7 @@
 --   opened         one version more
 --   Open-sound     every slice goes with its version; the new version's slice is that of the version before it
 use mathlib.Core.Path.{_≡_}
-use mathlib.Core.Bool.{Bool, true, false, cond}
+use mathlib.Core.Bool.{cond}
 use Prim.Native.Nat.{ℕ, suc, _-_, _≤_, _<_}
 use lib.Dec.{ltb}
 use Rattle.slices.specs.Copies.{Copies, valueAt, Serves, Sound}

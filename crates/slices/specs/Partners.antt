@@ -1,6 +1,6 @@
 -- Which copies a split has to visit: only the partners of the split copy, those that name it from x on.
 use mathlib.Core.Path.{_≡_}
-use mathlib.Core.Bool.{Bool, true, false}
+use mathlib.Core.Bool.{false}
 use Prim.Native.Nat.{ℕ, _≤_, _<_}
 use Rattle.slices.specs.Copies.{Copies, valueAt, Serves, Sound}
 use Rattle.slices.specs.Splits.{names, split}

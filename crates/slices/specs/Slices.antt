@@ -7,7 +7,7 @@
 -- A slice is given by two functions: on says which copies serve, get i f is what the field f of the copy i holds. The copy 0 is the
 -- root record.
 use mathlib.Core.Path.{_≡_}
-use mathlib.Core.Bool.{Bool, true, false, cond}
+use mathlib.Core.Bool.{true, cond}
 use mathlib.Core.Logic.{_⊎_}
 use Prim.Native.Nat.{ℕ}
 use lib.Dec.{eqb}
@@ -36,11 +36,6 @@ swapped c d (Number n) = Number n
 swapped c d Nil = Nil
 swapped c d (To k) = To (swap c d k)
 swapped c d (From k l) = From (swap c d k) l
-
--- a slice is as coherent with two copies of nodes exchanged, wherever they are named
-abbrev pub Coherent-swapped : Type 1
-Coherent-swapped = (c d : ℕ) (on : ℕ → Type 0) (get : ℕ → ℕ → Value) → (c ≡ 0 → ⊥) → (d ≡ 0 → ⊥) → Coherent on get
-    → Coherent (λ i. on (swap c d i)) (λ i f. swapped c d (get (swap c d i) f))
 
 -- the field f of the copy i holds v, and nothing else alters
 abbrev pub withValue : (ℕ → ℕ → Value) → ℕ → ℕ → Value → ℕ → ℕ → Value

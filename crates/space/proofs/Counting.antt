@@ -3,30 +3,30 @@ use mathlib.Core.Path.{_≡_, refl, sym, ap, subst, _∙_}
 use mathlib.Core.List.{List, [], _∷_, _++_}
 use mathlib.Core.Bool.{Bool, true, false, cond}
 use mathlib.Core.Logic.{_⊎_, inl, inr}
-use Prim.Native.Nat.{ℕ, zero, suc, _+_, _-_, _*_, _/_, _≤_, _<_}
+use Prim.Native.Nat.{ℕ, zero, suc, _+_, _-_, _/_, _≤_, _<_}
 use native.Mathlib.Omega.{arith}
 use native.Mathlib.Nat.{le-refl, not-suc-le-zero, le-of-suc-le-suc}
-use lib.Dec.{eqb, leb, ltb}
+use lib.Dec.{eqb}
 use lib.ListN.{length}
-use Rattle.std.proofs.shelf.Tests.{cases-lt, cases-bool, cases-eq, eq-eqb, ne-eqb, le-leb, lt-leb, lt-ltb, le-ltb}
+use Rattle.std.proofs.shelf.Tests.{cases-lt, cases-bool, cases-eq, eq-eqb, ne-eqb, le-leb, lt-leb}
 use Rattle.fields.specs.declared.kinds.Value.{Value}
 use Rattle.fields.specs.declared.kinds.Value.the-variants.{Number, Nil, To, From}
-use Rattle.fields.specs.Fields.{isNil, suits}
-use Rattle.entries.specs.Entries.{Entry, entry, sets, has, read, AllFrom, Sorted, Single, entriesBefore, entriesBehind, put, keep, mapped, renamed, both, EachVersion}
+use Rattle.fields.specs.Fields.{suits}
+use Rattle.entries.specs.Entries.{Entry, read, AllFrom, Sorted, Single, entriesBefore, entriesBehind, keep, both, EachVersion}
 use Rattle.entries.specs.Counts.{versionAt}
 use Rattle.entries.proofs.Counting.{put-adds, keep-adds, renamed-adds, mapped-length, split-halves, cut-renamed}
 use Rattle.memory.specs.Memory.{sumTo}
-use Rattle.slices.specs.Slices.{Coherent, swapped}
-use Rattle.slices.specs.Copies.{Copy, Copies, valueAt, Serves, serving, CopyOk, Decides, Sound}
-use Rattle.slices.specs.Splits.{times, naming, names, renames, maps, renamedCopy, frontHalf, backHalf, splitBy, split}
-use Rattle.slices.specs.Changes.{changed, setField, FieldWrite, setAll, withValues}
+use Rattle.slices.specs.Slices.{swapped}
+use Rattle.slices.specs.Copies.{Copy, Copies, valueAt, Serves, serving, Decides, Sound}
+use Rattle.slices.specs.Splits.{times, naming, names, renames, maps, renamedCopy, splitBy, split}
+use Rattle.slices.specs.Changes.{changed, setField, FieldWrite, withValues}
 use Rattle.slices.proofs.Swapping.{to-spot, from-spot}
 use Rattle.slices.proofs.Serving.{both-true, serving-tells}
-use Rattle.slices.proofs.Splitting.{copy-new, copy-old, copy-else, renames-out, sorted-renames, single-renames}
-use Rattle.states.specs.Relinks.{isFrom, write, emptied, filled, relinked}
+use Rattle.slices.proofs.Splitting.{copy-new, copy-old, copy-else, renames-out}
+use Rattle.states.specs.Relinks.{isFrom, write, emptied, filled}
 use Rattle.states.proofs.Linking.{clash}
 use Rattle.states.proofs.Relinking.{is-from, from-is}
-use Rattle.space.specs.Space.{size, allEntries, except, elsewhere, surplus, Change-adds, Relink-three, splitVersion, SplitVersion-fits, Split-adds}
+use Rattle.space.specs.Space.{size, allEntries, except, elsewhere, Change-adds, Relink-three, splitVersion, SplitVersion-fits, Split-adds}
 
 -- sums
 pub sum-le : (m : ℕ) (g h : ℕ → ℕ) → ((i : ℕ) → i < m → g i ≤ h i) → sumTo m g ≤ sumTo m h

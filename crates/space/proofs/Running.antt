@@ -1,40 +1,37 @@
 -- Every run keeps the copies sound, every version its state, and the space within its bounds; splits end.
 use mathlib.Core.Path.{_≡_, refl, sym, ap, subst, _∙_}
-use mathlib.Core.List.{List, [], _∷_, _++_}
-use mathlib.Core.Bool.{Bool, true, false, cond}
-use mathlib.Core.Logic.{_⊎_, inl, inr}
-use Prim.Native.Nat.{ℕ, zero, suc, _+_, _-_, _*_, _/_, _≤_, _<_}
+use mathlib.Core.List.{List, [], _∷_}
+use mathlib.Core.Bool.{Bool, true, false}
+use mathlib.Core.Logic.{inl, inr}
+use Prim.Native.Nat.{ℕ, zero, suc, _+_, _-_, _*_, _≤_, _<_}
 use native.Mathlib.Omega.{arith}
-use native.Mathlib.Nat.{le-refl, not-suc-le-zero, le-of-suc-le-suc}
-use lib.Dec.{eqb, leb, ltb}
+use native.Mathlib.Nat.{le-refl, not-suc-le-zero}
+use lib.Dec.{eqb, ltb}
 use lib.ListN.{length}
-use Rattle.std.proofs.shelf.Tests.{cases-lt, cases-bool, cases-eq, eq-eqb, ne-eqb, le-leb, lt-leb, lt-ltb, le-ltb}
+use Rattle.std.proofs.shelf.Tests.{cases-lt, cases-bool, cases-eq, eq-eqb, ne-eqb, lt-ltb, le-ltb}
 use Rattle.fields.specs.declared.kinds.Value.{Value}
 use Rattle.fields.specs.declared.kinds.Value.the-variants.{Number, Nil, To, From}
 use Rattle.std.proofs.shelf.Tests.{both-ways}
 use Rattle.fields.specs.Fields.{number, suits, HasLink}
 use Rattle.entries.specs.Entries.{both}
-use Rattle.order.specs.Items.{member, Distinct, known, position, following, behind}
+use Rattle.order.specs.Items.{member, Distinct, known, position, behind}
 use Rattle.order.proofs.Members.{long-behind, member-behind-new, member-others}
-use Rattle.memory.specs.Memory.{put, sumTo}
-use Rattle.slices.specs.Slices.{Coherent}
-use Rattle.slices.specs.Copies.{Copy, Copies, Serves, serving, CopyOk, Shaped, Sound}
+use Rattle.slices.specs.Copies.{Copy, Copies, serving, Sound}
 use Rattle.slices.specs.Splits.{split}
 use Rattle.slices.specs.Changes.{FieldWrite, setAll, setField}
-use Rattle.slices.specs.Openings.{opened}
 use Rattle.slices.specs.Births.{makeNode, newCopy}
-use Rattle.slices.proofs.Serving.{both-true, lt-is, le-is, eq-is, serving-tells}
+use Rattle.slices.proofs.Serving.{both-true, lt-is, eq-is, serving-tells}
 use Rattle.slices.proofs.Splitting.{split-sound}
 use Rattle.slices.proofs.Bearing.{make-sound}
-use Rattle.states.specs.Relinks.{not, slice, relink, relinked, write, setNumber, crowded, LinkTarget}
-use Rattle.states.specs.Nodes.{NodeState, Shows, Means, withNode, wrote, bySerial, Held}
+use Rattle.states.specs.Relinks.{not, slice, relinked, write, crowded, LinkTarget}
+use Rattle.states.specs.Nodes.{Means, Held}
 use Rattle.states.proofs.Linking.{to-same}
 use Rattle.states.proofs.Relinking.{relink-sound, setNumber-sound}
 use Rattle.states.proofs.Meaning.{make-means, relink-means, setNumber-means, split-means, setAll-versions}
 use Rattle.states.proofs.Places.{member-far}
 use Rattle.states.proofs.Listing.{behind-listed, open-listed}
-use Rattle.space.specs.Space.{size, allEntries, except, elsewhere, surplus, splitVersion}
-use Rattle.space.specs.Runs.{World, Move, nextIn, after, May, Runs, last, freshCopies, freshState, freshWorld, Kept, Spaced, Run-keeps, Step-keeps, Kept-spaced, hasLink, mayName, allowed, allAllowed, Allowed-runs, overfull, splitOverfull, cascade, Cascade-ends}
+use Rattle.space.specs.Space.{size, allEntries, except, surplus, splitVersion}
+use Rattle.space.specs.Runs.{World, Move, nextIn, after, May, Runs, last, freshCopies, freshState, freshWorld, Kept, Spaced, Run-keeps, Step-keeps, Kept-spaced, hasLink, mayName, allowed, allAllowed, Allowed-runs, overfull, splitOverfull, Cascade-ends}
 use Rattle.space.specs.Runs.Move.{opening, making, linking, numbering, splitting}
 use Rattle.space.proofs.Counting.{sum-le, sum-one, change-adds, relink-three, split-version-fits, split-adds}
 

@@ -5,9 +5,8 @@
 --   Figure                  one copy with 18 entries; then two copies with 9 each
 use mathlib.Core.Path.{_≡_}
 use mathlib.Core.List.{List, [], _∷_, _++_}
-use mathlib.Core.Bool.{Bool, true, false}
 use Prim.Native.Nat.{ℕ, zero, suc, _+_}
-use Rattle.fields.specs.declared.kinds.Value.the-variants.{Number, Nil, To, From}
+use Rattle.fields.specs.declared.kinds.Value.the-variants.{To}
 use Rattle.space.specs.Space.{size}
 use Rattle.space.specs.Runs.{World, Move, Runs, last, freshWorld, overfull}
 use Rattle.space.specs.Runs.Move.{opening, making, linking, numbering, splitting}

@@ -1,28 +1,24 @@
 -- The steps over the list of an order, and the third link in the words of the states.
-use mathlib.Core.Path.{_≡_, refl, sym, ap, subst, _∙_}
-use mathlib.Core.List.{List, [], _∷_, _++_}
-use mathlib.Core.Bool.{Bool, true, false, cond}
+use mathlib.Core.Path.{_≡_, refl, sym, ap, _∙_}
+use mathlib.Core.List.{List}
+use mathlib.Core.Bool.{true}
 use mathlib.Core.Logic.{_⊎_, inl, inr}
-use Prim.Native.Nat.{ℕ, zero, suc, _+_, _-_, _≤_, _<_}
+use Prim.Native.Nat.{ℕ, suc, _-_, _<_}
 use native.Mathlib.Omega.{arith}
-use native.Mathlib.Nat.{le-refl, not-suc-le-zero}
-use lib.Dec.{eqb, leb, ltb}
 use lib.ListN.{length}
-use Rattle.std.proofs.shelf.Tests.{cases-lt, cases-bool, cases-eq, eq-eqb, ne-eqb, le-leb, lt-leb, lt-ltb, le-ltb}
-use Rattle.fields.specs.declared.kinds.Value.{Value}
-use Rattle.fields.specs.declared.kinds.Value.the-variants.{Number, Nil, To, From}
+use Rattle.std.proofs.shelf.Tests.{cases-bool, cases-eq}
+use Rattle.fields.specs.declared.kinds.Value.the-variants.{To}
 use Rattle.std.specs.declared.option.Option.{Option}
 use Rattle.std.specs.declared.option.Option.the-variants.{Some, None}
 use Rattle.fields.specs.Fields.{suits, Shown}
-use Rattle.order.specs.Items.{member, Distinct, position, following, behind}
-use Rattle.memory.specs.Memory.{put}
-use Rattle.slices.specs.Copies.{Copy, Copies, valueAt, Serves, Sound}
-use Rattle.slices.specs.Openings.{opened, up}
+use Rattle.order.specs.Items.{Distinct, position, following, behind}
+use Rattle.slices.specs.Copies.{Copies, valueAt, Serves, Sound}
+use Rattle.slices.specs.Openings.{up}
 use Rattle.slices.proofs.Swapping.{to-spot}
 use Rattle.slices.proofs.Opening.{open-sound}
 use Rattle.slices.proofs.Bearing.{one-only}
-use Rattle.states.specs.Relinks.{slice, crowded, TwoOthers}
-use Rattle.states.specs.Nodes.{NodeState, Shows, Means, Alone, bySerial}
+use Rattle.states.specs.Relinks.{slice, TwoOthers}
+use Rattle.states.specs.Nodes.{NodeState, Shows, bySerial}
 use Rattle.states.specs.Listed.{nextOf, Behind-listed, Open-listed, TwoNames, Third-link}
 use Rattle.states.proofs.Linking.{clash-to}
 use Rattle.states.proofs.Relinking.{crowded-means}

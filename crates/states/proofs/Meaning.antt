@@ -1,33 +1,30 @@
 -- What each step does to the states that the copies stand for.
 use mathlib.Core.Path.{_≡_, refl, sym, ap, subst, _∙_}
-use mathlib.Core.List.{List, [], _∷_, _++_}
-use mathlib.Core.Bool.{Bool, true, false, cond}
-use mathlib.Core.Logic.{_⊎_, inl, inr}
-use Prim.Native.Nat.{ℕ, zero, suc, _+_, _-_, _≤_, _<_}
+use mathlib.Core.List.{List, [], _∷_}
+use mathlib.Core.Bool.{Bool, true, false}
+use mathlib.Core.Logic.{inl, inr}
+use Prim.Native.Nat.{ℕ, suc, _-_, _<_}
 use native.Mathlib.Omega.{arith}
-use native.Mathlib.Nat.{le-refl, not-suc-le-zero}
-use lib.Dec.{eqb, leb, ltb}
-use lib.ListN.{length}
-use Rattle.std.proofs.shelf.Tests.{cases-lt, cases-bool, cases-eq, eq-eqb, ne-eqb, le-leb, lt-leb, lt-ltb, le-ltb}
+use lib.Dec.{ltb}
+use Rattle.std.proofs.shelf.Tests.{cases-lt, cases-bool, cases-eq, eq-eqb, ne-eqb, le-leb, lt-leb, lt-ltb}
 use Rattle.fields.specs.declared.kinds.Value.{Value}
 use Rattle.fields.specs.declared.kinds.Value.the-variants.{Number, Nil, To, From}
-use Rattle.fields.specs.Fields.{number, suits, HasLink, Shown}
-use Rattle.entries.specs.Entries.{both}
+use Rattle.fields.specs.Fields.{number, Shown}
 use Rattle.memory.specs.Memory.{put}
-use Rattle.slices.specs.Slices.{Coherent, withValue, swap, swapped}
-use Rattle.slices.specs.Copies.{Copy, Copies, valueAt, Serves, serving, CoherentAt, Shaped, Sound}
+use Rattle.slices.specs.Slices.{withValue, swap, swapped}
+use Rattle.slices.specs.Copies.{Copy, Copies, valueAt, Serves, serving, CoherentAt, Sound}
 use Rattle.slices.specs.Splits.{split}
 use Rattle.slices.specs.Changes.{FieldWrite, setAll, setField}
-use Rattle.slices.specs.Openings.{opened, up, down}
-use Rattle.slices.specs.Births.{firstValues, makeNode, newCopy, Served}
+use Rattle.slices.specs.Openings.{opened, down}
+use Rattle.slices.specs.Births.{firstValues, makeNode}
 use Rattle.slices.proofs.Swapping.{swap-swap}
-use Rattle.slices.proofs.Cells.{with-cases, with-same, with-other}
+use Rattle.slices.proofs.Cells.{with-cases}
 use Rattle.slices.proofs.Splitting.{split-sound, split-serial, split-swap, split-key, split-swap-key}
 use Rattle.slices.proofs.Opening.{open-sound, down-up}
 use Rattle.slices.proofs.Bearing.{make-sound, one-only}
-use Rattle.states.specs.Relinks.{slice, relink, relinked, write, crowded, LinkTarget, setNumber}
-use Rattle.states.specs.Nodes.{NodeState, bySerial, Shows, Means, Alone, State-closed, Split-means, Open-means, withNode, Make-means, wrote, Held, Relink-means, SetNumber-means, Split-register}
-use Rattle.states.proofs.Linking.{clash, clash-to, clash-both, to-same}
+use Rattle.states.specs.Relinks.{slice, relink, relinked, write, setNumber}
+use Rattle.states.specs.Nodes.{NodeState, bySerial, Shows, Means, Alone, State-closed, Split-means, Open-means, withNode, Make-means, wrote, Relink-means, SetNumber-means, Split-register}
+use Rattle.states.proofs.Linking.{clash}
 use Rattle.states.proofs.Relinking.{relink-sound, setNumber-sound}
 
 abbrev ren : (ℕ → ℕ) → Value → Value

@@ -1,27 +1,25 @@
 -- The change of a link and of a number keeps soundness; a third link is exactly what is crowded.
 use mathlib.Core.Path.{_≡_, refl, sym, ap, subst, _∙_}
 use mathlib.Core.List.{List, [], _∷_, _++_}
-use mathlib.Core.Bool.{Bool, true, false, cond}
+use mathlib.Core.Bool.{true, false}
 use mathlib.Core.Logic.{_⊎_, inl, inr}
-use Prim.Native.Nat.{ℕ, zero, suc, _+_, _-_, _≤_, _<_}
+use Prim.Native.Nat.{ℕ, suc, _+_, _-_, _<_}
 use native.Mathlib.Omega.{arith}
-use native.Mathlib.Nat.{le-refl, not-suc-le-zero}
-use lib.Dec.{eqb, leb, ltb}
-use lib.ListN.{length}
-use Rattle.std.proofs.shelf.Tests.{cases-lt, cases-bool, cases-eq, eq-eqb, ne-eqb, le-leb, lt-leb, lt-ltb, le-ltb}
+use lib.Dec.{eqb}
+use Rattle.std.proofs.shelf.Tests.{cases-bool}
 use Rattle.fields.specs.declared.kinds.Value.{Value}
 use Rattle.fields.specs.declared.kinds.Value.the-variants.{Number, Nil, To, From}
 use Rattle.fields.specs.Fields.{number, isNil, isLink, suits, HasLink, Shown}
 use Rattle.entries.specs.Entries.{both}
 use Rattle.slices.specs.Slices.{Coherent, withValue}
-use Rattle.slices.specs.Copies.{Copies, valueAt, Serves, serving, Sound}
-use Rattle.slices.specs.Changes.{NextServed, FieldWrite, setAll, withValues, EachTarget}
+use Rattle.slices.specs.Copies.{Copies, Serves, serving}
+use Rattle.slices.specs.Changes.{NextServed, FieldWrite, withValues, EachTarget}
 use Rattle.slices.proofs.Swapping.{good-agree, nil-is}
 use Rattle.slices.proofs.Serving.{both-true, both-false, serving-tells}
 use Rattle.slices.proofs.Cells.{with-cases, with-same, with-other}
 use Rattle.slices.proofs.FieldWrites.{setAll-sound}
-use Rattle.states.specs.Relinks.{not, isFrom, write, saying, free, emptied, filled, relinked, taken, crowded, slice, relink, Behind, LinkTarget, Relink-sound, TwoOthers, Crowded-means, setNumber, SetNumber-sound}
-use Rattle.states.proofs.Linking.{clash, clash-to, clash-both, to-same, from-same, good-link, good-unlink, good-number}
+use Rattle.states.specs.Relinks.{not, isFrom, write, saying, free, emptied, relinked, taken, crowded, slice, Behind, Relink-sound, TwoOthers, Crowded-means, SetNumber-sound}
+use Rattle.states.proofs.Linking.{clash, from-same, good-link, good-unlink, good-number}
 
 pub from-is : (i l : ℕ) (v : Value) → isFrom i l v ≡ true → v ≡ From i l
 from-is i l (Number n) h = absurd (let z : _≡_ {A = ℕ} 0 1 = cc in omega arith)

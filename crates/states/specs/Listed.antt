@@ -7,14 +7,13 @@
 --   TwoNames, Third-link     a link is refused exactly when two others name the node
 use mathlib.Core.Path.{_≡_}
 use mathlib.Core.List.{List}
-use mathlib.Core.Bool.{Bool, true, false}
+use mathlib.Core.Bool.{true}
 use mathlib.Core.Logic.{_⊎_}
 use Prim.Native.Nat.{ℕ, suc, _≤_, _<_}
 use lib.ListN.{length}
 use Rattle.std.specs.declared.option.Option.{Option}
 use Rattle.std.specs.declared.option.Option.the-variants.{Some, None}
-use Rattle.fields.specs.declared.kinds.Value.{Value}
-use Rattle.fields.specs.declared.kinds.Value.the-variants.{Number, Nil, To, From}
+use Rattle.fields.specs.declared.kinds.Value.the-variants.{To}
 use Rattle.fields.specs.Fields.{Shown}
 use Rattle.order.specs.Items.{member, Distinct, position, following, behind}
 use Rattle.memory.specs.Memory.{put}

@@ -12,8 +12,8 @@
 use mathlib.Core.Path.{_≡_}
 use mathlib.Core.Bool.{Bool, true, false, cond}
 use mathlib.Core.Logic.{_⊎_}
-use Prim.Native.Nat.{ℕ, suc, _≤_, _<_}
-use lib.Dec.{eqb, leb}
+use Prim.Native.Nat.{ℕ, suc, _<_}
+use lib.Dec.{leb}
 use Rattle.fields.specs.declared.kinds.Value.{Value}
 use Rattle.fields.specs.declared.kinds.Value.the-variants.{Number, Nil, To, From}
 use Rattle.fields.specs.Fields.{number, HasLink, Shown}
