@@ -42,8 +42,7 @@ node-one rows h zero = refl
 node-one rows h (suc k) = node-one rows (getD rows h blank .next) k
 
 module _ (pos : ℕ → ℕ) (k : ℕ) (rows : List EntryRow) (head len f v steps prev at′ left : ℕ) (P : Passed pos k rows head len f v steps prev at′ left)
-  (row : EntryRow) (some : 0 < left) (is : row ≡ getD rows at′ row) where
-
+    (row : EntryRow) (some : 0 < left) (is : row ≡ getD rows at′ row) where
   step : chain rows at′ left ≡ entryOf row ∷ chain rows (row .next) (left - 1)
   step = chain-step k rows at′ left row some (P .within) is
 
@@ -51,29 +50,32 @@ module _ (pos : ℕ → ℕ) (k : ℕ) (rows : List EntryRow) (head len f v step
   row-is = getD-read rows at′ row (within-at k rows at′ left some (P .within)) is blank
 
   pub found-before : true ≡ ltb (pos v) (pos (row .version)) → Found pos k rows head len f v (record { steps = steps; prev = prev; at = at′; left = left; same = false })
-  found-before t = record
-    { passed = P
-    ; here = λ _. some
-    ; placed = λ w. ap (put pos f v w) step ∙ (put-here pos f v w (entryOf row) _ t ∙ ap (λ (z : List (Entry Value)). entry v f w ∷ z) (sym step)) }
+  found-before t = record {
+    passed = P;
+    here = λ _. some;
+    placed = λ w. ap (put pos f v w) step ∙ (put-here pos f v w (entryOf row) _ t ∙ ap (λ (z : List (Entry Value)). entry v f w ∷ z) (sym step));
+  }
 
   pub found-same : row .version ≡ v → row .field ≡ f → Found pos k rows head len f v (record { steps = steps; prev = prev; at = at′; left = left; same = true })
-  found-same ev ef = record
-    { passed = P
-    ; here = λ _. some
-    ; placed = λ w. ap (put pos f v w) step
-        ∙ (put-same pos f v w (entryOf row) _ ev ef ∙ ap (λ (z : EntryRow). entry v f w ∷ chain rows (z .next) (left - 1)) row-is) }
+  found-same ev ef = record {
+    passed = P;
+    here = λ _. some;
+    placed = λ w. ap (put pos f v w) step
+        ∙ (put-same pos f v w (entryOf row) _ ev ef ∙ ap (λ (z : EntryRow). entry v f w ∷ chain rows (z .next) (left - 1)) row-is);
+  }
 
   pub passed-more : false ≡ ltb (pos v) (pos (row .version)) → (pos (row .version) ≡ pos v → row .field ≡ f → ⊥)
       → Passed pos k rows head len f v (steps + 1) at′ (row .next) (left - 1)
-  passed-more t n = record
-    { total = let q = P .total in omega (arith, q, some)
-    ; reached = rw (add-one steps) (ap (λ (z : EntryRow). z .next) (row-is ∙ ap (λ (z : ℕ). getD rows z blank) (P .reached)) ∙ sym (node-one rows head steps))
-    ; last = λ j e. let q : steps ≡ j = omega (arith, e) in P .reached ∙ ap (node rows head) q
-    ; within = within-step k rows at′ left row some (P .within) is .1
-    ; puts = λ w.
+  passed-more t n = record {
+    total = let q = P .total in omega (arith, q, some);
+    reached = rw (add-one steps) (ap (λ (z : EntryRow). z .next) (row-is ∙ ap (λ (z : ℕ). getD rows z blank) (P .reached)) ∙ sym (node-one rows head steps));
+    last = λ j e. let q : steps ≡ j = omega (arith, e) in P .reached ∙ ap (node rows head) q;
+    within = within-step k rows at′ left row some (P .within) is .1;
+    puts = λ w.
         P .puts w ∙ (ap (λ (z : List (Entry Value)). chain rows head steps ++ put pos f v w z) step
         ∙ (ap (λ (z : List (Entry Value)). chain rows head steps ++ z) (put-skip pos f v w (entryOf row) _ t n)
         ∙ (sym (append-assoc (chain rows head steps) (entryOf row ∷ []) _)
         ∙ ap (λ (z : List (Entry Value)). z ++ put pos f v w (chain rows (row .next) (left - 1)))
-            (ap (λ (z : EntryRow). chain rows head steps ++ (entryOf z ∷ [])) (row-is ∙ ap (λ (z : ℕ). getD rows z blank) (P .reached))
-              ∙ (sym (chain-one rows head steps) ∙ ap (chain rows head) (sym (add-one steps))))))) }
+        (ap (λ (z : EntryRow). chain rows head steps ++ (entryOf z ∷ [])) (row-is ∙ ap (λ (z : ℕ). getD rows z blank) (P .reached))
+        ∙ (sym (chain-one rows head steps) ∙ ap (chain rows head) (sym (add-one steps)))))));
+  }

@@ -35,18 +35,18 @@ node-shape rows rows′ s h n = node-frame rows rows′ h n (λ b l. s (node row
 pub within-of : (k : ℕ) (rows : List EntryRow) (h n : ℕ) → ((a : ℕ) → a < n → node rows h a < length rows) → ((a : ℕ) → a < n → getD rows (node rows h a) blank .version < k) → Within k rows h n
 within-of k rows h zero i v = tt
 within-of k rows h (suc n) i v =
-    (i 0 (omega arith) , v 0 (omega arith) , within-of k rows (getD rows h blank .next) n (λ a l. i (suc a) (omega (arith, l))) (λ a l. v (suc a) (omega (arith, l))))
+    (i 0 (omega arith), v 0 (omega arith), within-of k rows (getD rows h blank .next) n (λ a l. i (suc a) (omega (arith, l))) (λ a l. v (suc a) (omega (arith, l))))
 
 pub chained-within : (k u : ℕ) (rows : List EntryRow) (h n : ℕ) → Chained k u rows h n → u ≤ length rows → Within k rows h n
 chained-within k u rows h n C l = within-of k rows h n (λ a q. let z = C .0 a q in omega (arith, z, l)) (C .1)
 
 pub below-of : (m : ℕ) (rows : List EntryRow) (h n : ℕ) → ((a : ℕ) → a < n → node rows h a < m) → Below m rows h n
 below-of m rows h zero i = tt
-below-of m rows h (suc n) i = (i 0 (omega arith) , below-of m rows (getD rows h blank .next) n (λ a l. i (suc a) (omega (arith, l))))
+below-of m rows h (suc n) i = (i 0 (omega arith), below-of m rows (getD rows h blank .next) n (λ a l. i (suc a) (omega (arith, l))))
 
 pub avoids-of : (j : ℕ) (rows : List EntryRow) (h n : ℕ) → Off j rows h n → Avoids j rows h n
 avoids-of j rows h zero i = tt
-avoids-of j rows h (suc n) i = (i 0 (omega arith) , avoids-of j rows (getD rows h blank .next) n (λ a l. i (suc a) (omega (arith, l))))
+avoids-of j rows h (suc n) i = (i 0 (omega arith), avoids-of j rows (getD rows h blank .next) n (λ a l. i (suc a) (omega (arith, l))))
 
 pub once-tail : (rows : List EntryRow) (h n : ℕ) → Once rows h (suc n) → Once rows (getD rows h blank .next) n
 once-tail rows h n o a b la lb e = let q : suc a ≡ suc b = o (suc a) (suc b) (omega (arith, la)) (omega (arith, lb)) e in omega (arith, q)
@@ -77,13 +77,15 @@ pub record Inserted (u k : ℕ) (rows : List EntryRow) (h n : ℕ) (rows′ : Li
 -- where a row of the longer chain comes from
 pub inserted-drawn : (u k : ℕ) (rows : List EntryRow) (h n : ℕ) (rows′ : List EntryRow) (h′ : ℕ) → Inserted u k rows h n rows′ h′ → Drawn u rows h n rows′ h′ (n + 1)
 inserted-drawn u k rows h n rows′ h′ I a l =
-    elim (cases-order a k)
-    [ inl e ↦ inl (ap (node rows′ h′) e ∙ I .here)
-    | inr s ↦ elim s
-      [ inl q ↦ let p = I .place in inr (a , omega (arith, q, p) , I .front a q)
-      | inr q ↦
-          let e : a ≡ suc (a - 1) = omega (arith, q) in
-          inr (a - 1 , omega (arith, l, e) , ap (node rows′ h′) e ∙ I .rear (a - 1) (omega (arith, q, e)) (omega (arith, l, e))) ] ]
+    elim (cases-order a k) [
+      | inl e ↦ inl (ap (node rows′ h′) e ∙ I .here)
+      | inr s ↦ elim s [
+        | inl q ↦ let p = I .place in inr (a, omega (arith, q, p), I .front a q)
+        | inr q ↦
+            let e : a ≡ suc (a - 1) = omega (arith, q) in
+            inr (a - 1, omega (arith, l, e), ap (node rows′ h′) e ∙ I .rear (a - 1) (omega (arith, q, e)) (omega (arith, l, e)))
+      ]
+    ]
 
 -- a row of the longer chain: the new one, one before it, or one behind it
 pub data Spotted (u k : ℕ) (rows : List EntryRow) (h n x a : ℕ) : Type 0 where
@@ -94,13 +96,15 @@ pub data Spotted (u k : ℕ) (rows : List EntryRow) (h n x a : ℕ) : Type 0 whe
 spotted : (u k : ℕ) (rows : List EntryRow) (h n : ℕ) (rows′ : List EntryRow) (h′ : ℕ) → Inserted u k rows h n rows′ h′ → (a : ℕ) → a < n + 1 → Spotted u k rows h n (node rows′ h′ a) a
 spotted u k rows h n rows′ h′ I a l =
     let p = I .place in
-    elim (cases-order a k)
-    [ inl e ↦ isNew e (ap (node rows′ h′) e ∙ I .here)
-    | inr s ↦ elim s
-      [ inl q ↦ isFront q (omega (arith, q, p)) (I .front a q)
-      | inr q ↦
-          let e : a ≡ suc (a - 1) = omega (arith, q) in
-          isRear (a - 1) e (omega (arith, q, e)) (omega (arith, l, e)) (ap (node rows′ h′) e ∙ I .rear (a - 1) (omega (arith, q, e)) (omega (arith, l, e))) ] ]
+    elim (cases-order a k) [
+      | inl e ↦ isNew e (ap (node rows′ h′) e ∙ I .here)
+      | inr s ↦ elim s [
+        | inl q ↦ isFront q (omega (arith, q, p)) (I .front a q)
+        | inr q ↦
+            let e : a ≡ suc (a - 1) = omega (arith, q) in
+            isRear (a - 1) e (omega (arith, q, e)) (omega (arith, l, e)) (ap (node rows′ h′) e ∙ I .rear (a - 1) (omega (arith, q, e)) (omega (arith, l, e)))
+      ]
+    ]
 
 once-both : (u k : ℕ) (rows : List EntryRow) (h n x y a b : ℕ) → ((a : ℕ) → a < n → node rows h a < u) → Once rows h n
     → Spotted u k rows h n x a → Spotted u k rows h n y b → x ≡ y → a ≡ b
@@ -119,9 +123,11 @@ pub inserted-chained : (c u k : ℕ) (rows : List EntryRow) (h n : ℕ) (rows′
     → Chained c (u + 1) rows′ h′ (n + 1)
 inserted-chained c u k rows h n rows′ h′ I C vs vu =
     let p = I .place in
-    let D = inserted-drawn u k rows h n rows′ h′ I in
-    ( (λ a l. elim (D a l) [ inl e ↦ omega (arith, e) | inr b ↦ let q = C .0 (b .0) (b .1) in let e = b .2 in omega (arith, q, e) ])
-    , (λ a l. elim (D a l)
-        [ inl e ↦ subst (λ (z : ℕ). getD rows′ z blank .version < c) (sym e) vu
-        | inr b ↦ subst (λ (z : ℕ). getD rows′ z blank .version < c) (sym (b .2)) (subst (λ (z : ℕ). z < c) (sym (vs (node rows h (b .0)) (C .0 (b .0) (b .1)))) (C .1 (b .0) (b .1))) ])
-    , (λ a b la lb e. once-both u k rows h n (node rows′ h′ a) (node rows′ h′ b) a b (C .0) (C .2) (spotted u k rows h n rows′ h′ I a la) (spotted u k rows h n rows′ h′ I b lb) e) )
+    let D = inserted-drawn u k rows h n rows′ h′ I in (
+      (λ a l. elim (D a l) [ inl e ↦ omega (arith, e) | inr b ↦ let q = C .0 (b .0) (b .1) in let e = b .2 in omega (arith, q, e) ]),
+      (λ a l. elim (D a l) [
+        | inl e ↦ subst (λ (z : ℕ). getD rows′ z blank .version < c) (sym e) vu
+        | inr b ↦ subst (λ (z : ℕ). getD rows′ z blank .version < c) (sym (b .2)) (subst (λ (z : ℕ). z < c) (sym (vs (node rows h (b .0)) (C .0 (b .0) (b .1)))) (C .1 (b .0) (b .1)))
+      ]),
+      (λ a b la lb e. once-both u k rows h n (node rows′ h′ a) (node rows′ h′ b) a b (C .0) (C .2) (spotted u k rows h n rows′ h′ I a la) (spotted u k rows h n rows′ h′ I b lb) e),
+    )

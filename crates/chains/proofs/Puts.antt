@@ -4,8 +4,8 @@ use mathlib.Core.Bool.{Bool, true, false, cond}
 use mathlib.Core.Logic.{_⊎_, inl, inr, _≢_}
 use Prim.Native.Nat.{ℕ, zero, suc, _+_, _-_, _<_, _≤_}
 use native.Mathlib.Omega.{arith}
-use native.Mathlib.Nat.{not-suc-le-zero, le-of-suc-le-suc}
-use lib.ListN.{length, getD, set, length-set}
+use native.Mathlib.Nat.{not-suc-le-zero, le-of-suc-le-suc, add-zero}
+use lib.ListN.{length, getD, set, length-set, length-append}
 use Rattle.std.proofs.shelf.Lists.{getD-set-same, getD-set-other, getD-read}
 use Rattle.chains.specs.declared.row.EntryRow.{EntryRow}
 use Rattle.fields.specs.declared.kinds.Value.{Value}
@@ -30,14 +30,14 @@ below-set : (m : ℕ) (rows : List EntryRow) (j : ℕ) (r : EntryRow) (h n : ℕ
 below-set m rows j r h zero a b = tt
 below-set m rows j r h (suc n) a b =
     let e : getD (set rows j r) h blank ≡ getD rows h blank = getD-set-other rows j h r blank (a .0) in
-    (b .0 , subst (λ (y : EntryRow). Below m (set rows j r) (y .next) n) (sym e) (below-set m rows j r (getD rows h blank .next) n (a .1) (b .1)))
+    (b .0, subst (λ (y : EntryRow). Below m (set rows j r) (y .next) n) (sym e) (below-set m rows j r (getD rows h blank .next) n (a .1) (b .1)))
 
 avoids-less : (j : ℕ) (rows : List EntryRow) (h k n : ℕ) → Avoids j rows h (k + n) → Avoids j rows h k
 avoids-less j rows h zero n a = tt
 avoids-less j rows h (suc k) n a =
     let z : suc k + n ≡ suc (k + n) = omega arith in
     let a′ : Avoids j rows h (suc (k + n)) = rw z at a in
-    (a′ .0 , avoids-less j rows (getD rows h blank .next) k n (a′ .1))
+    (a′ .0, avoids-less j rows (getD rows h blank .next) k n (a′ .1))
 
 avoids-rest : (j : ℕ) (rows : List EntryRow) (h k n : ℕ) → Avoids j rows h (k + n) → Avoids j rows (node rows h k) n
 avoids-rest j rows h zero n a = let z : zero + n ≡ n = omega arith in rw z at a
@@ -48,7 +48,7 @@ avoids-rest j rows h (suc k) n a =
 
 whole : (pos : ℕ → ℕ) (k : ℕ) (rows : List EntryRow) (head len f v : ℕ) (s : Spot) (w : Value) → Found pos k rows head len f v s
     → put pos f v w (chain rows head len) ≡ chain rows head (s .steps)
-      ++ cond (s .same) (entry v f w ∷ chain rows (getD rows (s .at) blank .next) (s .left - 1)) (entry v f w ∷ chain rows (s .at) (s .left))
+    ++ cond (s .same) (entry v f w ∷ chain rows (getD rows (s .at) blank .next) (s .left - 1)) (entry v f w ∷ chain rows (s .at) (s .left))
 whole pos k rows head len f v s w F = F .passed .puts w ∙ ap (λ (y : List (Entry Value)). chain rows head (s .steps) ++ y) (F .placed w)
 
 pub found-at : (pos : ℕ → ℕ) (k : ℕ) (rows : List EntryRow) (head len f v : ℕ) (s : Spot) → Found pos k rows head len f v s → s .same ≡ true → s .at < length rows
@@ -85,11 +85,11 @@ puts-first pos k rows head len f v u s w F t z b l =
     let lf : s .left ≡ len = omega (arith, tot, z) in
     let q : len + 1 ≡ suc len = omega arith in
     let g : getD (set rows u (record { version = v; field = f; value = w; next = s .at })) u blank ≡ record { version = v; field = f; value = w; next = s .at } =
-      getD-set-same rows u _ blank l in
+    getD-set-same rows u _ blank l in
     let W = whole pos k rows head len f v s w F in
     let W′ : put pos f v w (chain rows head len) ≡ chain rows head (s .steps) ++ (entry v f w ∷ chain rows (s .at) (s .left)) = rw t at W in
     let W″ : put pos f v w (chain rows head len) ≡ entry v f w ∷ chain rows head len =
-      W′ ∙ (ap (λ (y : ℕ). chain rows head y ++ (entry v f w ∷ chain rows (s .at) (s .left))) z ∙ (ap (λ (y : ℕ). entry v f w ∷ chain rows y (s .left)) ra ∙ ap (λ (y : ℕ). entry v f w ∷ chain rows head y) lf)) in
+    W′ ∙ (ap (λ (y : ℕ). chain rows head y ++ (entry v f w ∷ chain rows (s .at) (s .left))) z ∙ (ap (λ (y : ℕ). entry v f w ∷ chain rows y (s .left)) ra ∙ ap (λ (y : ℕ). entry v f w ∷ chain rows head y) lf)) in
     ap (chain (set rows u (record { version = v; field = f; value = w; next = s .at })) u) q
     ∙ (ap (λ (y : EntryRow). entryOf y ∷ chain (set rows u (record { version = v; field = f; value = w; next = s .at })) (y .next) len) g
     ∙ (ap (λ (y : ℕ). entry v f w ∷ chain (set rows u (record { version = v; field = f; value = w; next = s .at })) y len) ra
@@ -131,10 +131,10 @@ puts-behind pos k rows head len f v u s w R last F t n d b l eR is =
     let li : last ≡ getD R (s .prev) blank = getD-read R (s .prev) last pu is blank in
     let S = splice R head (s .steps - 1) (s .left) u dR bR uR nx in
     let front : chain R head (suc (s .steps - 1)) ≡ chain rows head (s .steps) =
-      ap (chain R head) (sym e) ∙ (ap (λ (y : List EntryRow). chain y head (s .steps)) eR ∙ chain-set rows u _ head (s .steps) (avoids-less u rows head (s .steps) (s .left) av′)) in
+    ap (chain R head) (sym e) ∙ (ap (λ (y : List EntryRow). chain y head (s .steps)) eR ∙ chain-set rows u _ head (s .steps) (avoids-less u rows head (s .steps) (s .left) av′)) in
     let rest : chain R (node R head (suc (s .steps - 1))) (s .left) ≡ chain rows (s .at) (s .left) =
-      ap (λ (y : ℕ). chain R y (s .left)) at-is ∙ (ap (λ (y : List EntryRow). chain y (s .at) (s .left)) eR
-        ∙ chain-set rows u _ (s .at) (s .left) (subst (λ (y : ℕ). Avoids u rows y (s .left)) (sym (F .passed .reached)) (avoids-rest u rows head (s .steps) (s .left) av′))) in
+    ap (λ (y : ℕ). chain R y (s .left)) at-is ∙ (ap (λ (y : List EntryRow). chain y (s .at) (s .left)) eR
+    ∙ chain-set rows u _ (s .at) (s .left) (subst (λ (y : ℕ). Avoids u rows y (s .left)) (sym (F .passed .reached)) (avoids-rest u rows head (s .steps) (s .left) av′))) in
     let W = whole pos k rows head len f v s w F in
     let W′ : put pos f v w (chain rows head len) ≡ chain rows head (s .steps) ++ (entry v f w ∷ chain rows (s .at) (s .left)) = rw t at W in
     ap (chain (set R (s .prev) (relinked last u)) head) q1
@@ -145,3 +145,26 @@ puts-behind pos k rows head len f v u s w R last F t n d b l eR is =
     ∙ (ap (λ (y : EntryRow). chain rows head (s .steps) ++ (entryOf y ∷ chain R (node R head (suc (s .steps - 1))) (s .left))) gu
     ∙ (ap (λ (y : List (Entry Value)). chain rows head (s .steps) ++ (entry v f w ∷ y)) rest ∙ sym W′))))))
 
+chain-length : (rows : List EntryRow) (h n : ℕ) → length (chain rows h n) ≡ n
+chain-length rows h zero = refl
+chain-length rows h (suc n) = ap suc (chain-length rows (getD rows h blank .next) n)
+
+-- an entry that replaces none makes the list longer by one
+pub found-grows : (pos : ℕ → ℕ) (k : ℕ) (rows : List EntryRow) (head len f v : ℕ) (s : Spot) (w : Value) → Found pos k rows head len f v s → s .same ≡ false
+    → length (put pos f v w (chain rows head len)) ≡ len + 1
+found-grows pos k rows head len f v s w F t =
+    let W = whole pos k rows head len f v s w F in
+    let W′ : put pos f v w (chain rows head len) ≡ chain rows head (s .steps) ++ (entry v f w ∷ chain rows (s .at) (s .left)) = rw t at W in
+    let a = ap (λ (es : List (Entry Value)). length es) W′ in
+    let b = length-append (chain rows head (s .steps)) (entry v f w ∷ chain rows (s .at) (s .left)) in
+    let c = chain-length rows head (s .steps) in
+    let d = chain-length rows (s .at) (s .left) in
+    let tot = F .passed .total in
+    omega (arith, a, b, c, d, tot)
+
+-- a table that stays
+pub chained-same : (k u : ℕ) (rows : List EntryRow) (h n : ℕ) → Chained k u rows h n → Chained k (u + 0) rows h (n + 0)
+chained-same k u rows h n C = rw (add-zero u) (rw (add-zero n) C)
+
+pub drawn-same : (u : ℕ) (rows : List EntryRow) (h n : ℕ) → Drawn u rows h n rows h (n + 0)
+drawn-same u rows h n a l = inr (a, omega (arith, l), refl)

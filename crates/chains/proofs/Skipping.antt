@@ -27,13 +27,15 @@ goes-more pos k rows head len x too at left row G some is t =
     let l = G .0 in
     let e : len - (left - 1) ≡ suc (len - left) = omega (arith, l, some) in
     let ri : row ≡ getD rows at blank = getD-read rows at row (within-at k rows at left some (G .3)) is blank in
-    let ra : row ≡ getD rows (node rows head (len - left)) blank = ri ∙ ap (λ (z : ℕ). getD rows z blank) (G .1) in
-    ( omega (arith, l)
-    , ap (λ (z : EntryRow). z .next) ra ∙ (sym (node-next rows head (len - left)) ∙ ap (node rows head) (sym e))
-    , (λ a la. elim (cases-eq a (len - left))
-        [ inl q ↦ ap (λ (z : ℕ). passed pos x too (getD rows (node rows head z) blank .version)) q ∙ (ap (λ (z : EntryRow). passed pos x too (z .version)) (sym ra) ∙ t)
-        | inr q ↦ G .2 a (omega (arith, la, e, q)) ])
-    , within-step k rows at left row some (G .3) is .1 )
+    let ra : row ≡ getD rows (node rows head (len - left)) blank = ri ∙ ap (λ (z : ℕ). getD rows z blank) (G .1) in (
+      omega (arith, l),
+      ap (λ (z : EntryRow). z .next) ra ∙ (sym (node-next rows head (len - left)) ∙ ap (node rows head) (sym e)),
+      (λ a la. elim (cases-eq a (len - left)) [
+        | inl q ↦ ap (λ (z : ℕ). passed pos x too (getD rows (node rows head z) blank .version)) q ∙ (ap (λ (z : EntryRow). passed pos x too (z .version)) (sym ra) ∙ t)
+        | inr q ↦ G .2 a (omega (arith, la, e, q))
+      ]),
+      within-step k rows at left row some (G .3) is .1,
+    )
 
 pub goes-stop : (pos : ℕ → ℕ) (k : ℕ) (rows : List EntryRow) (head len x : ℕ) (too : Bool) (at left : ℕ) (row : EntryRow) → Goes pos k rows head len x too at left
     → 0 < left → row ≡ getD rows at row → passed pos x too (row .version) ≡ false → Skipped pos rows head len x too at left

@@ -22,7 +22,7 @@ chain-set rows j r h (suc n) a =
 
 pub avoids-below : (m : ℕ) (rows : List EntryRow) (h n : ℕ) → Below m rows h n → Avoids m rows h n
 avoids-below m rows h zero b = tt
-avoids-below m rows h (suc n) b = ((λ e. let l = b .0 in omega (arith, l, e)) , avoids-below m rows (getD rows h blank .next) n (b .1))
+avoids-below m rows h (suc n) b = ((λ e. let l = b .0 in omega (arith, l, e)), avoids-below m rows (getD rows h blank .next) n (b .1))
 
 -- a row, relinked, behind k others: they stay, and the chain goes on at u
 pub relink : (rows : List EntryRow) (h k u : ℕ) → node rows h k < length rows → Avoids (node rows h k) rows h k
@@ -46,7 +46,7 @@ below-node m rows h (suc n) (suc k) b l = below-node m rows (getD rows h blank .
 pub splice : (rows : List EntryRow) (h k n u : ℕ) → Once rows h (suc k + n) → Below u rows h (suc k + n) → u < length rows
     → getD rows u blank .next ≡ node rows h (suc k)
     → chain (set rows (node rows h k) (relinked (getD rows (node rows h k) blank) u)) h (suc k + suc n)
-      ≡ chain rows h (suc k) ++ (entryOf (getD rows u blank) ∷ chain rows (node rows h (suc k)) n)
+    ≡ chain rows h (suc k) ++ (entryOf (getD rows u blank) ∷ chain rows (node rows h (suc k)) n)
 splice rows h k n u s b l e =
     let z : suc k + suc n ≡ suc (k + suc n) = omega arith in
     let lt : k < suc k + n = omega arith in
@@ -56,12 +56,12 @@ splice rows h k n u s b l e =
     let ne : u ≢ node rows h k = λ q. omega (arith, pu, q) in
     let g : getD (set rows (node rows h k) (relinked (getD rows (node rows h k) blank) u)) u blank ≡ getD rows u blank = getD-set-other rows (node rows h k) u _ blank ne in
     let t = chain-set rows (node rows h k) (relinked (getD rows (node rows h k) blank) u) (node rows h (suc k)) n
-      (avoids-rear rows h k n s) in
+    (avoids-rear rows h k n s) in
     rw z (relink rows h k u (omega (arith, pu, l)) (avoids-front rows h (suc k + n) k s lt) _ refl (suc n)
-      ∙ ap (λ (y : List (Entry Value)). chain rows h (suc k) ++ y)
-        (ap (λ (y : EntryRow). entryOf y ∷ chain (set rows (node rows h k) (relinked (getD rows (node rows h k) blank) u)) (y .next) n) g
-          ∙ ap (λ (y : List (Entry Value)). entryOf (getD rows u blank) ∷ y)
-            (ap (λ (y : ℕ). chain (set rows (node rows h k) (relinked (getD rows (node rows h k) blank) u)) y n) e ∙ t)))
+    ∙ ap (λ (y : List (Entry Value)). chain rows h (suc k) ++ y)
+    (ap (λ (y : EntryRow). entryOf y ∷ chain (set rows (node rows h k) (relinked (getD rows (node rows h k) blank) u)) (y .next) n) g
+    ∙ ap (λ (y : List (Entry Value)). entryOf (getD rows u blank) ∷ y)
+    (ap (λ (y : ℕ). chain (set rows (node rows h k) (relinked (getD rows (node rows h k) blank) u)) y n) e ∙ t)))
 
 -- the row behind k others gives way to the row r, which goes on as it did
 pub replace : (rows : List EntryRow) (h k n : ℕ) (r : EntryRow) → Once rows h (suc k + n) → node rows h k < length rows
@@ -72,7 +72,7 @@ replace rows h zero n r s l e =
     let g : getD (set rows h r) h blank ≡ r = getD-set-same rows h r blank l in
     let t = chain-set rows h r (node rows h 1) n (avoids-rear rows h zero n s) in
     rw z (ap (λ (y : EntryRow). entryOf y ∷ chain (set rows h r) (y .next) n) g
-      ∙ ap (λ (y : List (Entry Value)). entryOf r ∷ y) (ap (λ (y : ℕ). chain (set rows h r) y n) e ∙ t))
+    ∙ ap (λ (y : List (Entry Value)). entryOf r ∷ y) (ap (λ (y : ℕ). chain (set rows h r) y n) e ∙ t))
 replace rows h (suc k) n r s l e =
     let z : suc (suc k) + n ≡ suc (suc k + n) = omega arith in
     let s′ : Once rows h (suc (suc k + n)) = subst (Once rows h) z s in
@@ -80,4 +80,4 @@ replace rows h (suc k) n r s l e =
     let a = avoids-front rows h (suc (suc k + n)) (suc k) s′ lt in
     let g : getD (set rows (node rows h (suc k)) r) h blank ≡ getD rows h blank = getD-set-other rows (node rows h (suc k)) h r blank (a .0) in
     rw z (ap (λ (y : EntryRow). entryOf y ∷ chain (set rows (node rows h (suc k)) r) (y .next) (suc k + n)) g
-      ∙ ap (λ (y : List (Entry Value)). entryOf (getD rows h blank) ∷ y) (replace rows (getD rows h blank .next) k n r (once-tail rows h (suc k + n) s′) l e))
+    ∙ ap (λ (y : List (Entry Value)). entryOf (getD rows h blank) ∷ y) (replace rows (getD rows h blank .next) k n r (once-tail rows h (suc k + n) s′) l e))

@@ -30,20 +30,22 @@ stays-same pos k rows head len f v u s w row F t C lv is =
     let e : row .next ≡ getD rows (s .at) blank .next = ap (λ (z : EntryRow). z .next) (getD-read rows (s .at) row l is blank) in
     let tot = F .passed .total in
     let h = F .here t in
-    record
-      { frame = same-frame u rows head len (s .steps) (s .at) _ (omega (arith, tot, h)) (F .passed .reached)
-      ; kept = same-chained k u rows head len (s .at) (record { version = v; field = f; value = w; next = row .next }) l e lv C
-      ; drawn = same-drawn u rows head len (s .at) (record { version = v; field = f; value = w; next = row .next }) l e }
+    record {
+      frame = same-frame u rows head len (s .steps) (s .at) _ (omega (arith, tot, h)) (F .passed .reached);
+      kept = same-chained k u rows head len (s .at) (record { version = v; field = f; value = w; next = row .next }) l e lv C;
+      drawn = same-drawn u rows head len (s .at) (record { version = v; field = f; value = w; next = row .next }) l e;
+    }
 
 pub stays-first : (pos : ℕ → ℕ) (k : ℕ) (rows : List EntryRow) (head len f v u : ℕ) (s : Spot) (w : Value) → Found pos k rows head len f v s
     → s .steps ≡ 0 → Chained k u rows head len → v < k → u < length rows
     → Stays k u rows (set rows u (record { version = v; field = f; value = w; next = s .at })) head len u (len + 1) 1
 stays-first pos k rows head len f v u s w F z C lv lu =
     let e : s .at ≡ head = F .passed .reached ∙ ap (node rows head) z in
-    record
-      { frame = first-frame u rows head len (record { version = v; field = f; value = w; next = s .at })
-      ; kept = first-chained k u rows head len (record { version = v; field = f; value = w; next = s .at }) lu e lv C
-      ; drawn = inserted-drawn u 0 rows head len _ u (first-inserted u rows head len (record { version = v; field = f; value = w; next = s .at }) lu e (C .0)) }
+    record {
+      frame = first-frame u rows head len (record { version = v; field = f; value = w; next = s .at });
+      kept = first-chained k u rows head len (record { version = v; field = f; value = w; next = s .at }) lu e lv C;
+      drawn = inserted-drawn u 0 rows head len _ u (first-inserted u rows head len (record { version = v; field = f; value = w; next = s .at }) lu e (C .0));
+    }
 
 pub stays-behind : (pos : ℕ → ℕ) (k : ℕ) (rows : List EntryRow) (head len f v u : ℕ) (s : Spot) (w : Value) (last : EntryRow) → Found pos k rows head len f v s
     → (s .steps ≡ 0 → ⊥) → Chained k u rows head len → v < k → u < length rows
@@ -58,11 +60,12 @@ stays-behind pos k rows head len f v u s w last F n C lv lu is =
     let ls = length-set rows u (record { version = v; field = f; value = w; next = s .at }) in
     let i : last ≡ getD (set rows u (record { version = v; field = f; value = w; next = s .at })) (s .prev) blank = getD-read _ (s .prev) last (omega (arith, lp, lu, ls)) is blank in
     let i′ : last ≡ getD (set rows u (record { version = v; field = f; value = w; next = s .at })) (node rows head (s .steps - 1)) blank =
-      i ∙ ap (λ (z : ℕ). getD (set rows u (record { version = v; field = f; value = w; next = s .at })) z blank) p in
+    i ∙ ap (λ (z : ℕ). getD (set rows u (record { version = v; field = f; value = w; next = s .at })) z blank) p in
     let nx : s .at ≡ node rows head (suc (s .steps - 1)) = F .passed .reached ∙ ap (node rows head) e in
     let lk : suc (s .steps - 1) ≤ len = omega (arith, tot, e) in
     subst (λ (z : ℕ). Stays k u rows (set (set rows u (record { version = v; field = f; value = w; next = s .at })) z (relinked last u)) head len head (len + 1) 1) (sym p)
-    (record
-      { frame = behind-frame k u (s .steps - 1) rows head len (record { version = v; field = f; value = w; next = s .at }) last C lk lu nx i′
-      ; kept = behind-chained k u (s .steps - 1) rows head len (record { version = v; field = f; value = w; next = s .at }) last C lk lu nx i′ lv
-      ; drawn = inserted-drawn u (suc (s .steps - 1)) rows head len _ head (behind-inserted k u (s .steps - 1) rows head len (record { version = v; field = f; value = w; next = s .at }) last C lk lu nx i′) })
+    (record {
+      frame = behind-frame k u (s .steps - 1) rows head len (record { version = v; field = f; value = w; next = s .at }) last C lk lu nx i′;
+      kept = behind-chained k u (s .steps - 1) rows head len (record { version = v; field = f; value = w; next = s .at }) last C lk lu nx i′ lv;
+      drawn = inserted-drawn u (suc (s .steps - 1)) rows head len _ head (behind-inserted k u (s .steps - 1) rows head len (record { version = v; field = f; value = w; next = s .at }) last C lk lu nx i′);
+    })

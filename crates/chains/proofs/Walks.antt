@@ -26,7 +26,7 @@ pub within-step : (k : ℕ) (rows : List EntryRow) (h n : ℕ) (row : EntryRow) 
 within-step k rows h zero row p w e = absurd (not-suc-le-zero p)
 within-step k rows h (suc n) row p w e =
     let r = getD-read rows h row (w .0) e blank in
-    rw (less-one n) (rw r (w .1 , w .2))
+    rw (less-one n) (rw r (w .1, w .2))
 
 pub chain-step : (k : ℕ) (rows : List EntryRow) (h n : ℕ) (row : EntryRow) → 0 < n → Within k rows h n → row ≡ getD rows h row
     → chain rows h n ≡ entryOf row ∷ chain rows (row .next) (n - 1)

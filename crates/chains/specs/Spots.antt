@@ -25,4 +25,4 @@ pub record Found (pos : ℕ → ℕ) (k : ℕ) (rows : List EntryRow) (head len 
   pub passed : Passed pos k rows head len f v (s .steps) (s .prev) (s .at) (s .left)
   pub here : s .same ≡ true → 0 < s .left
   pub placed : (w : Value) → put pos f v w (chain rows (s .at) (s .left))
-    ≡ cond (s .same) (entry v f w ∷ chain rows (getD rows (s .at) blank .next) (s .left - 1)) (entry v f w ∷ chain rows (s .at) (s .left))
+      ≡ cond (s .same) (entry v f w ∷ chain rows (getD rows (s .at) blank .next) (s .left - 1)) (entry v f w ∷ chain rows (s .at) (s .left))

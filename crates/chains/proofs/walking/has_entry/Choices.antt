@@ -10,7 +10,7 @@ abbrev pub Inv-loop-left : given.InvT-loop-left
 Inv-loop-left g l =
     Within (length (g .O·VersionOrder .items (l .order))) (vec-items (l .rows)) (l .at) (l .left)
     × (has (position (g .O·VersionOrder .items (l .order))) (l .field) (position (g .O·VersionOrder .items (l .order)) (l .v)) (chain (vec-items (l .rows)) (l .at) (l .left))
-      ≡ has (position (g .O·VersionOrder .items (l .order))) (l .field) (position (g .O·VersionOrder .items (l .order)) (l .v)) (chain (vec-items (l .rows)) (l .head) (l .len)))
+    ≡ has (position (g .O·VersionOrder .items (l .order))) (l .field) (position (g .O·VersionOrder .items (l .order)) (l .v)) (chain (vec-items (l .rows)) (l .head) (l .len)))
 
 abbrev pub μ-loop-left : given.MeasureT-loop-left
 μ-loop-left g l = l .left

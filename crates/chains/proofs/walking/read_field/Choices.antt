@@ -10,7 +10,7 @@ abbrev pub Inv-loop-left : given.InvT-loop-left
 Inv-loop-left g l =
     Within (length (g .O·VersionOrder .items (l .order))) (vec-items (l .rows)) (l .at) (l .left)
     × (read (position (g .O·VersionOrder .items (l .order))) (l .field) (position (g .O·VersionOrder .items (l .order)) (l .v)) (l .value) (chain (vec-items (l .rows)) (l .at) (l .left))
-      ≡ read (position (g .O·VersionOrder .items (l .order))) (l .field) (position (g .O·VersionOrder .items (l .order)) (l .v)) (l .entry .value) (chain (vec-items (l .rows)) (l .entry .at) (l .entry .left)))
+    ≡ read (position (g .O·VersionOrder .items (l .order))) (l .field) (position (g .O·VersionOrder .items (l .order)) (l .v)) (l .entry .value) (chain (vec-items (l .rows)) (l .entry .at) (l .entry .left)))
 
 abbrev pub μ-loop-left : given.MeasureT-loop-left
 μ-loop-left g l = l .left

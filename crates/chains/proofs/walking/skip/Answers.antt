@@ -16,7 +16,7 @@ index-row-requires g c κs =
 
 pub passes-requires : need.passes-requires
 passes-requires g c κs =
-    (c .pre .known , within-step _ _ _ _ (c .index-row .result .now) (c .loop-left-test .taken) (c .loop-left .inv .3) (c .index-row .ensures) .0)
+    (c .pre .known, within-step _ _ _ _ (c .index-row .result .now) (c .loop-left-test .taken) (c .loop-left .inv .3) (c .index-row .ensures) .0)
 
 pub returns-then-not-passes : need.returns-then-not-passes
 returns-then-not-passes g c =
