@@ -9,3 +9,7 @@ pub mod Keeps
 pub mod Stays
 pub mod Renaming
 pub mod Orders
+pub mod Opened
+pub mod Keeping
+pub mod Mapping
+pub mod Asked

@@ -145,7 +145,7 @@ puts-behind pos k rows head len f v u s w R last F t n d b l eR is =
     ∙ (ap (λ (y : EntryRow). chain rows head (s .steps) ++ (entryOf y ∷ chain R (node R head (suc (s .steps - 1))) (s .left))) gu
     ∙ (ap (λ (y : List (Entry Value)). chain rows head (s .steps) ++ (entry v f w ∷ y)) rest ∙ sym W′))))))
 
-chain-length : (rows : List EntryRow) (h n : ℕ) → length (chain rows h n) ≡ n
+pub chain-length : (rows : List EntryRow) (h n : ℕ) → length (chain rows h n) ≡ n
 chain-length rows h zero = refl
 chain-length rows h (suc n) = ap suc (chain-length rows (getD rows h blank .next) n)
 

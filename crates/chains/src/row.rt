@@ -19,3 +19,10 @@ pub struct Spot {
     pub left: usize,
     pub same: bool,
 }
+
+// A chain: its first row and how many rows it has.
+#[derive(Clone, Copy)]
+pub struct Chain {
+    pub head: usize,
+    pub len: usize,
+}
