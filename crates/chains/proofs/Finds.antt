@@ -1,18 +1,16 @@
-use mathlib.Core.Path.{_≡_, refl, sym, ap, subst, _∙_}
+use mathlib.Core.Path.{_≡_, refl, sym, ap, _∙_}
 use mathlib.Core.List.{List, [], _∷_, _++_, append-assoc}
-use mathlib.Core.Bool.{Bool, true, false, cond}
-use mathlib.Core.Logic.{_⊎_, inl, inr}
-use Prim.Native.Nat.{ℕ, zero, suc, _+_, _-_, _<_, _≤_}
+use mathlib.Core.Bool.{true, false}
+use Prim.Native.Nat.{ℕ, zero, suc, _+_, _-_, _<_}
 use native.Mathlib.Omega.{arith}
 use native.Mathlib.Numerals.{add-one}
-use lib.Dec.{eqb, ltb}
-use lib.ListN.{length, getD}
+use lib.Dec.{ltb}
+use lib.ListN.{getD}
 use Rattle.std.proofs.shelf.Lists.{getD-read}
 use Rattle.chains.specs.declared.row.EntryRow.{EntryRow}
 use Rattle.fields.specs.declared.kinds.Value.{Value}
-use Rattle.chains.specs.declared.row.Spot.{Spot}
-use Rattle.entries.specs.Entries.{Entry, entry, put, sets, both}
-use Rattle.chains.specs.Chains.{blank, entryOf, chain, node, Within}
+use Rattle.entries.specs.Entries.{Entry, entry, put, sets}
+use Rattle.chains.specs.Chains.{blank, entryOf, chain, node}
 use Rattle.chains.specs.Spots.{Passed, Found}
 use Rattle.chains.proofs.Walks.{within-at, within-step, chain-step}
 

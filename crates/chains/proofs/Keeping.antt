@@ -1,15 +1,15 @@
 -- A put into one chain keeps the table sound.
-use mathlib.Core.Path.{_≡_, refl, sym, ap, subst, _∙_}
-use mathlib.Core.List.{List, [], _∷_}
-use mathlib.Core.Logic.{_⊎_, inl, inr}
-use Prim.Native.Nat.{ℕ, zero, suc, _+_, _-_, _<_, _≤_}
+use mathlib.Core.Path.{_≡_, sym, ap, subst, _∙_}
+use mathlib.Core.List.{List}
+use mathlib.Core.Logic.{inl, inr}
+use Prim.Native.Nat.{ℕ, _+_, _-_, _<_, _≤_}
 use native.Mathlib.Omega.{arith}
 use lib.ListN.{length, getD, set}
-use Rattle.std.proofs.shelf.Lists.{getD-set-same, getD-set-other, getD-read}
+use Rattle.std.proofs.shelf.Lists.{getD-set-same, getD-set-other}
 use Rattle.std.proofs.shelf.Tests.{cases-eq}
 use Rattle.chains.specs.declared.row.EntryRow.{EntryRow}
 use Rattle.fields.specs.declared.kinds.Value.{Value}
-use Rattle.chains.specs.Chains.{blank, chain, node, Chained, Frame, Drawn, Off}
+use Rattle.chains.specs.Chains.{blank, chain, node, Chained, Frame, Drawn}
 use Rattle.chains.proofs.Nodes.{node-frame, chain-frame}
 use Rattle.chains.proofs.Puts.{chain-length}
 use Rattle.entries.specs.Entries.{Entry}

@@ -1,19 +1,16 @@
 -- What a put leaves of the table, whatever the order.
 use mathlib.Core.Path.{_≡_, refl, sym, ap, subst, _∙_}
-use mathlib.Core.List.{List, [], _∷_}
-use mathlib.Core.Logic.{_⊎_, inl, inr, _≢_}
-use Prim.Native.Nat.{ℕ, zero, suc, _+_, _-_, _<_, _≤_}
+use mathlib.Core.List.{List}
+use mathlib.Core.Logic.{inl, inr, _≢_}
+use Prim.Native.Nat.{ℕ, suc, _+_, _-_, _<_, _≤_}
 use native.Mathlib.Omega.{arith}
 use native.Mathlib.Nat.{add-zero}
 use lib.ListN.{length, getD, set, length-set}
-use Rattle.std.proofs.shelf.Lists.{getD-set-same, getD-set-other, getD-read}
+use Rattle.std.proofs.shelf.Lists.{getD-set-same, getD-set-other}
 use Rattle.std.proofs.shelf.Tests.{cases-eq}
 use Rattle.chains.specs.declared.row.EntryRow.{EntryRow}
-use Rattle.fields.specs.declared.kinds.Value.{Value}
-use Rattle.chains.specs.declared.row.Spot.{Spot}
-use Rattle.chains.specs.Chains.{blank, node, Once, Chained, Frame, Drawn, Off, relinked}
-use Rattle.chains.specs.Spots.{Passed, Found}
-use Rattle.chains.proofs.Nodes.{node-next, node-add, node-frame, Inserted, inserted-drawn, inserted-chained}
+use Rattle.chains.specs.Chains.{blank, node, Chained, Frame, Drawn, relinked}
+use Rattle.chains.proofs.Nodes.{node-next, node-add, node-frame, Inserted, inserted-chained}
 
 next-set : (rows : List EntryRow) (at : ℕ) (new : EntryRow) (j : ℕ) → at < length rows → new .next ≡ getD rows at blank .next → getD (set rows at new) j blank .next ≡ getD rows j blank .next
 next-set rows at new j l e =

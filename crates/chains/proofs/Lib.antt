@@ -13,3 +13,5 @@ pub mod Opened
 pub mod Keeping
 pub mod Mapping
 pub mod Asked
+pub mod Cutting
+pub mod Adding

@@ -1,20 +1,16 @@
 -- Walks that look for an entry.
-use mathlib.Core.Path.{_≡_, refl, sym, ap, subst, _∙_}
-use mathlib.Core.List.{List, [], _∷_}
-use mathlib.Core.Bool.{Bool, true, false, cond}
-use mathlib.Core.Logic.{_⊎_, inl, inr}
-use Prim.Native.Nat.{ℕ, zero, suc, _+_, _-_, _<_, _≤_}
+use mathlib.Core.Path.{_≡_, refl, sym, ap, _∙_}
+use mathlib.Core.List.{List, _∷_}
+use mathlib.Core.Bool.{Bool, true, false}
+use Prim.Native.Nat.{ℕ, suc, _-_, _<_, _≤_}
 use native.Mathlib.Omega.{arith}
-use native.Mathlib.Nat.{not-suc-le-zero, le-of-suc-le-suc}
-use lib.Dec.{eqb, ltb}
-use lib.ListN.{length, getD}
-use Rattle.std.proofs.shelf.Lists.{getD-read}
+use lib.ListN.{getD}
 use Rattle.chains.specs.declared.row.EntryRow.{EntryRow}
 use Rattle.fields.specs.declared.kinds.Value.{Value}
-use Rattle.entries.specs.Entries.{Entry, sets, both, has}
+use Rattle.entries.specs.Entries.{Entry, sets, has}
 use Rattle.entries.specs.Counts.{versionAt}
-use Rattle.chains.specs.Chains.{blank, entryOf, chain, node, Within}
-use Rattle.chains.proofs.Walks.{within-at, within-step, chain-step}
+use Rattle.chains.specs.Chains.{entryOf, chain, Within}
+use Rattle.chains.proofs.Walks.{chain-step}
 
 pub has-here : (pos : ℕ → ℕ) (k : ℕ) (rows : List EntryRow) (at′ left f v : ℕ) (row : EntryRow) (all : Bool) → Within k rows at′ left → 0 < left → row ≡ getD rows at′ row
     → row .version ≡ v → row .field ≡ f → has pos f (pos v) (chain rows at′ left) ≡ all → true ≡ all

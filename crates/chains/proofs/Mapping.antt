@@ -1,21 +1,19 @@
 -- Rows that keep their links and versions keep the tables sound.
-use mathlib.Core.Path.{_≡_, refl, sym, ap, subst, _∙_}
-use mathlib.Core.List.{List, [], _∷_}
-use Prim.Native.Nat.{ℕ, zero, suc, _+_, _-_, _<_, _≤_}
+use mathlib.Core.Path.{_≡_, sym, ap, subst, _∙_}
+use mathlib.Core.List.{List}
+use Prim.Native.Nat.{ℕ, _+_, _-_, _<_}
 use native.Mathlib.Omega.{arith}
-use native.Mathlib.Nat.{add-zero}
-use mathlib.Core.Logic.{_⊎_, inl, inr}
-use lib.ListN.{length, getD, set}
-use Rattle.std.specs.Of.Vec.{vec-items, vec-len}
+use lib.ListN.{length, getD}
+use Rattle.std.specs.Of.Vec.{vec-items}
 use Rattle.chains.specs.declared.row.EntryRow.{EntryRow}
 use Rattle.fields.specs.declared.kinds.Value.{Value}
-use Rattle.chains.specs.Chains.{blank, chain, node, Chained, Shape, Off, Within}
+use Rattle.chains.specs.Chains.{blank, chain, node, Shape, Off, Within}
 use Rattle.chains.proofs.Nodes.{node-shape, chain-frame, chained-within}
 use Rattle.entries.specs.Entries.{Entry}
 use Rattle.chains.specs.declared.row.Chain.{Chain}
 use Rattle.chains.specs.declared.table.ChainTable.{ChainTable}
-use Rattle.chains.specs.Sound.{Sound, chainAt, noChain}
-use Rattle.chains.proofs.Opened.{opened, used-long, made-long}
+use Rattle.chains.specs.Sound.{Sound, chainAt}
+use Rattle.chains.proofs.Opened.{opened, used-long}
 
 pub map-sound : (cs : List Chain) (rows rows′ : List EntryRow) (made used k : ℕ) → Shape rows rows′ → Sound cs rows made used k → Sound cs rows′ made used k
 map-sound cs rows rows′ made used k P S =

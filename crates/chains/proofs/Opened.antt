@@ -7,7 +7,7 @@ use base.Stored.{coded-set, codedℕ}
 use Prim.Native.Nat.{ℕ, _<_, _≤_}
 use native.Mathlib.Omega.{arith}
 use lib.ListN.{length, getD}
-use Rattle.std.specs.Of.Vec.{vec-items, vec-len}
+use Rattle.std.specs.Of.Vec.{vec-items}
 use Rattle.std.proofs.shelf.Lists.{getD-read}
 use Rattle.chains.specs.declared.table.ChainTable.{ChainTable}
 use Rattle.chains.specs.declared.row.EntryRow.{EntryRow}

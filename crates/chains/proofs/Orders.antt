@@ -1,15 +1,15 @@
 -- What walks need of an order: its answers are about positions, and two known versions at one position are one.
-use mathlib.Core.Path.{_≡_, refl, sym, ap, _∙_}
-use mathlib.Core.Bool.{Bool, true, false, cond, _&&_}
+use mathlib.Core.Path.{_≡_, ap, _∙_}
+use mathlib.Core.Bool.{Bool}
 use mathlib.Core.List.{List}
 use Prim.Native.Nat.{ℕ, _<_}
 use lib.Dec.{ltb}
 use lib.ListN.{length}
 use Rattle.std.proofs.shelf.Tests.{lt-ltb}
 use Rattle.std.specs.declared.result.Result.{Result}
-use Rattle.std.specs.declared.result.Result.the-variants.{Ok, Err}
+use Rattle.std.specs.declared.result.Result.the-variants.{Ok}
 use Rattle.refusals.specs.declared.kinds.OrderRefusal.{OrderRefusal}
-use Rattle.order.specs.Items.{member, Distinct, known, earlier, position, beforeAnswer}
+use Rattle.order.specs.Items.{member, Distinct, known, position, beforeAnswer}
 use Rattle.order.proofs.Positions.{position-apart, earlier-position}
 
 pub apart : (xs : List ℕ) → ((a : ℕ) → member xs a ≡ known xs a) → (a b : ℕ) → a < length xs → b < length xs → position xs a ≡ position xs b → a ≡ b

@@ -1,22 +1,21 @@
 use mathlib.Core.Path.{_≡_, refl, sym, ap, subst, _∙_}
-use mathlib.Core.List.{List, [], _∷_, _++_}
-use mathlib.Core.Bool.{Bool, true, false, cond}
-use mathlib.Core.Logic.{_⊎_, inl, inr, _≢_}
+use mathlib.Core.List.{List, _∷_, _++_}
+use mathlib.Core.Bool.{true, false, cond}
+use mathlib.Core.Logic.{inr}
 use Prim.Native.Nat.{ℕ, zero, suc, _+_, _-_, _<_, _≤_}
 use native.Mathlib.Omega.{arith}
-use native.Mathlib.Nat.{not-suc-le-zero, le-of-suc-le-suc, add-zero}
+use native.Mathlib.Nat.{add-zero}
 use lib.ListN.{length, getD, set, length-set, length-append}
 use Rattle.std.proofs.shelf.Lists.{getD-set-same, getD-set-other, getD-read}
 use Rattle.chains.specs.declared.row.EntryRow.{EntryRow}
 use Rattle.fields.specs.declared.kinds.Value.{Value}
 use Rattle.chains.specs.declared.row.Spot.{Spot}
 use Rattle.entries.specs.Entries.{Entry, entry, put}
-use Rattle.chains.specs.Chains.{blank, entryOf, chain, node, Within, Below, Avoids, Once, Chained, Frame, Drawn, Off, relinked}
-use Rattle.chains.specs.Spots.{Passed, Found}
+use Rattle.chains.specs.Chains.{blank, entryOf, chain, node, Below, Avoids, Once, Chained, Drawn, relinked}
+use Rattle.chains.specs.Spots.{Found}
 use Rattle.chains.proofs.Walks.{within-at}
 use Rattle.chains.proofs.Splices.{chain-set, avoids-below, replace, splice, below-node}
-use Rattle.chains.proofs.Nodes.{node-next, node-add, node-frame, node-shape, below-of, Inserted, inserted-drawn, inserted-chained}
-use Rattle.std.proofs.shelf.Tests.{cases-eq}
+use Rattle.chains.proofs.Nodes.{node-next}
 
 pub node-set : (rows : List EntryRow) (j : ℕ) (r : EntryRow) (h k n : ℕ) → k ≤ n → Avoids j rows h n → node (set rows j r) h k ≡ node rows h k
 node-set rows j r h zero n l a = refl

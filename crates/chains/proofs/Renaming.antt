@@ -1,9 +1,9 @@
 -- A walk that renames the values of a field.
 use mathlib.Core.Path.{_≡_, refl, sym, ap, subst, _∙_}
-use mathlib.Core.List.{List, [], _∷_}
-use mathlib.Core.Bool.{Bool, true, false, cond}
-use mathlib.Core.Logic.{_⊎_, inl, inr}
-use Prim.Native.Nat.{ℕ, zero, suc, _+_, _-_, _<_, _≤_}
+use mathlib.Core.List.{List, _∷_}
+use mathlib.Core.Bool.{true, false, cond}
+use mathlib.Core.Logic.{inl, inr}
+use Prim.Native.Nat.{ℕ, zero, suc, _-_, _<_, _≤_}
 use native.Mathlib.Omega.{arith}
 use lib.Dec.{eqb, leb, ltb}
 use lib.ListN.{length, getD, set, length-set}
@@ -12,8 +12,8 @@ use Rattle.std.proofs.shelf.Tests.{cases-bool, cases-eq}
 use Rattle.chains.specs.declared.row.EntryRow.{EntryRow}
 use Rattle.fields.specs.declared.kinds.Value.{Value}
 use Rattle.entries.specs.Entries.{Entry, entry, both, mapped}
-use Rattle.chains.specs.Chains.{blank, entryOf, chain, node, Once, Chained, Off, Shape}
-use Rattle.chains.proofs.Nodes.{node-next, node-shape}
+use Rattle.chains.specs.Chains.{blank, entryOf, chain, node, Chained, Off, Shape}
+use Rattle.chains.proofs.Nodes.{node-next}
 
 abbrev pub turnedEntry : (ℕ → ℕ) → (Value → Value) → ℕ → ℕ → Entry Value → Entry Value
 turnedEntry pos r f x e = cond (both (eqb (e .field) f) (leb x (pos (e .version)))) (entry (e .version) (e .field) (r (e .value))) e

@@ -1,8 +1,7 @@
-use mathlib.Core.Path.{_≡_, refl, sym, ap, subst, _∙_}
-use mathlib.Core.List.{List, [], _∷_, _++_}
-use mathlib.Core.Bool.{Bool, true, false, cond}
-use mathlib.Core.Logic.{_⊎_, inl, inr, _≢_}
-use Prim.Native.Nat.{ℕ, zero, suc, pred, _+_, _-_, _<_, _≤_}
+use mathlib.Core.Path.{_≡_, refl, ap, subst, _∙_}
+use mathlib.Core.List.{List, _∷_, _++_}
+use mathlib.Core.Logic.{_≢_}
+use Prim.Native.Nat.{ℕ, zero, suc, _+_, _-_, _<_}
 use native.Mathlib.Nat.{not-suc-le-zero, le-of-suc-le-suc}
 use native.Mathlib.Omega.{arith}
 use lib.ListN.{length, getD, set}
@@ -10,8 +9,8 @@ use Rattle.std.proofs.shelf.Lists.{getD-set-same, getD-set-other}
 use Rattle.chains.specs.declared.row.EntryRow.{EntryRow}
 use Rattle.fields.specs.declared.kinds.Value.{Value}
 use Rattle.entries.specs.Entries.{Entry}
-use Rattle.chains.specs.Chains.{blank, entryOf, chain, Within, node, Below, Avoids, Once, relinked}
-use Rattle.chains.proofs.Nodes.{node-next, avoids-front, avoids-rear, once-tail}
+use Rattle.chains.specs.Chains.{blank, entryOf, chain, node, Below, Avoids, Once, relinked}
+use Rattle.chains.proofs.Nodes.{avoids-front, avoids-rear, once-tail}
 
 -- a write elsewhere leaves the chain
 pub chain-set : (rows : List EntryRow) (j : ℕ) (r : EntryRow) (h n : ℕ) → Avoids j rows h n → chain (set rows j r) h n ≡ chain rows h n

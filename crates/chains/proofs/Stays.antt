@@ -1,18 +1,17 @@
 -- What a put leaves of the table, from where find came to.
-use mathlib.Core.Path.{_≡_, refl, sym, ap, subst, _∙_}
-use mathlib.Core.List.{List, [], _∷_}
-use mathlib.Core.Bool.{Bool, true, false, cond}
-use mathlib.Core.Logic.{_⊎_, inl, inr, _≢_}
-use Prim.Native.Nat.{ℕ, zero, suc, _+_, _-_, _<_, _≤_}
+use mathlib.Core.Path.{_≡_, sym, ap, subst, _∙_}
+use mathlib.Core.List.{List}
+use mathlib.Core.Bool.{true}
+use Prim.Native.Nat.{ℕ, suc, _+_, _-_, _<_, _≤_}
 use native.Mathlib.Omega.{arith}
 use lib.ListN.{length, getD, set, length-set}
 use Rattle.std.proofs.shelf.Lists.{getD-read}
 use Rattle.chains.specs.declared.row.EntryRow.{EntryRow}
 use Rattle.fields.specs.declared.kinds.Value.{Value}
 use Rattle.chains.specs.declared.row.Spot.{Spot}
-use Rattle.chains.specs.Chains.{blank, node, Once, Chained, Frame, Drawn, Off, Below, relinked}
-use Rattle.chains.specs.Spots.{Passed, Found}
-use Rattle.chains.proofs.Nodes.{below-of, Inserted, inserted-drawn}
+use Rattle.chains.specs.Chains.{blank, node, Chained, Frame, Drawn, relinked}
+use Rattle.chains.specs.Spots.{Found}
+use Rattle.chains.proofs.Nodes.{below-of, inserted-drawn}
 use Rattle.chains.proofs.Puts.{found-at, found-prev}
 use Rattle.chains.proofs.Keeps.{same-chained, same-drawn, same-frame, first-inserted, first-frame, first-chained, behind-inserted, behind-frame, behind-chained}
 

@@ -1,16 +1,15 @@
-use mathlib.Core.Path.{_≡_, refl, sym, ap, subst, _∙_}
-use mathlib.Core.List.{List, [], _∷_}
-use mathlib.Core.Bool.{Bool, true, false, cond}
-use Prim.Native.Nat.{ℕ, zero, suc, pred, _-_, _<_, _≤_}
+use mathlib.Core.Path.{_≡_, sym, ap, _∙_}
+use mathlib.Core.List.{List, _∷_}
+use mathlib.Core.Bool.{true, false, cond}
+use Prim.Native.Nat.{ℕ, zero, suc, _-_, _<_}
 use native.Mathlib.Nat.{not-suc-le-zero}
 use native.Mathlib.Omega.{arith}
-use native.Mathlib.Numerals.{sub-one}
 use lib.ListN.{length, getD}
 use Rattle.std.proofs.shelf.Lists.{getD-read}
 use Rattle.chains.specs.declared.row.EntryRow.{EntryRow}
 use lib.Dec.{ltb}
 use Rattle.fields.specs.declared.kinds.Value.{Value}
-use Rattle.entries.specs.Entries.{Entry, read, hits}
+use Rattle.entries.specs.Entries.{read, hits}
 use Rattle.chains.specs.Chains.{blank, entryOf, chain, Within}
 
 less-one : (n : ℕ) → suc n - 1 ≡ n

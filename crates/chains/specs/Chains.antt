@@ -6,7 +6,7 @@ use lib.ListN.{length, getD}
 use mathlib.Core.Logic.{_⊎_}
 use Rattle.chains.specs.declared.row.EntryRow.{EntryRow}
 use Rattle.fields.specs.declared.kinds.Value.{Value}
-use Rattle.fields.specs.declared.kinds.Value.the-variants.{Number, Nil, To, From}
+use Rattle.fields.specs.declared.kinds.Value.the-variants.{Nil}
 use Rattle.entries.specs.Entries.{Entry, entry}
 
 abbrev pub blank : EntryRow

@@ -1,10 +1,10 @@
 -- How far a walk goes that passes the rows before a version, or at and before it.
 use mathlib.Core.Path.{_≡_}
-use mathlib.Core.List.{List, [], _∷_}
+use mathlib.Core.List.{List}
 use mathlib.Core.Bool.{Bool, true, false, cond}
 use Prim.Native.Nat.{ℕ, _-_, _<_, _≤_}
 use lib.Dec.{leb, ltb}
-use lib.ListN.{length, getD}
+use lib.ListN.{getD}
 use Rattle.chains.specs.declared.row.EntryRow.{EntryRow}
 use Rattle.chains.specs.Chains.{blank, node}
 

@@ -1,15 +1,13 @@
 -- Where an entry goes in a chain.
 use mathlib.Core.Path.{_≡_}
-use mathlib.Core.List.{List, [], _∷_, _++_}
-use mathlib.Core.Bool.{Bool, true, false, cond}
-use Prim.Native.Nat.{ℕ, suc, _+_, _-_, _<_, _≤_}
-use lib.ListN.{length, getD}
+use mathlib.Core.List.{List, _∷_, _++_}
+use mathlib.Core.Bool.{true, cond}
+use Prim.Native.Nat.{ℕ, suc, _+_, _-_, _<_}
+use lib.ListN.{getD}
 use Rattle.chains.specs.declared.row.EntryRow.{EntryRow}
 use Rattle.fields.specs.declared.kinds.Value.{Value}
-use Rattle.fields.specs.declared.kinds.Value.the-variants.{Number, Nil, To, From}
-use lib.Dec.{eqb}
 use Rattle.chains.specs.declared.row.Spot.{Spot}
-use Rattle.entries.specs.Entries.{Entry, entry, put}
+use Rattle.entries.specs.Entries.{entry, put}
 use Rattle.chains.specs.Chains.{blank, chain, node, Within}
 
 -- the first steps rows have been passed, at is the row behind them, prev the last of them

@@ -1,18 +1,21 @@
 // The calls of the table of chains. Each is safe for every order; its equation holds where the table answers the call.
 ghost use mathlib.Core.Path.{_≡_};
 ghost use mathlib.Core.Bool.{true};
-ghost use Prim.Native.Nat.{ℕ};
+ghost use Prim.Native.Nat.{ℕ, _<_};
 ghost use lib.ListN.{length};
 ghost use Rattle.order.specs.Items.{position};
-ghost use Rattle.entries.specs.Entries.{has, mapped, put, read};
+ghost use Rattle.entries.specs.Counts.{versionAt};
+ghost use Rattle.entries.specs.Entries.{has, keep, mapped, put, read};
 ghost use Rattle.slices.specs.Partners.{redirect};
-ghost use Rattle.chains.specs.Views.{Alters, asked, entriesOf};
+ghost use Rattle.chains.specs.Views.{Adds, Alters, Cuts, Opens, asked, entriesOf};
 use crate::row::Chain;
 use crate::table::ChainTable;
 use crate::walking::has_entry;
 use crate::walking::put_entry;
 use crate::walking::read_field;
 use crate::walking::rename_entries;
+use crate::walking::skip;
+use crate::walking::version_at;
 use fields::kinds::Value;
 use order::VersionOrder;
 
@@ -96,5 +99,85 @@ impl ChainTable {
             c,
             d,
         );
+    }
+
+    // How many entries the chain i has.
+    pub fn length(&self, i: u32) -> usize
+        ensures { λ r. ⌜ (i < now (self .entry) .made → r ≡ length (entriesOf (now (self .entry)) i)) ⌝ }
+    {
+        if i >= self.made {
+            return 0;
+        }
+        self.chains[i as usize].len
+    }
+
+    // The version of the entry number k, counted from 0, of the chain i.
+    pub fn version_of(&self, i: u32, k: usize) -> u32
+        ensures { λ r. ⌜ (i < now (self .entry) .made → k < length (entriesOf (now (self .entry)) i) → r ≡ versionAt (entriesOf (now (self .entry)) i) k) ⌝ }
+    {
+        if i >= self.made {
+            return 0;
+        }
+        let chain = self.chains[i as usize];
+        if k >= chain.len {
+            return 0;
+        }
+        version_at(&self.rows, self.versions, chain.head, chain.len, k)
+    }
+
+    // Parts the chain c at the version x: the entries before x stay, and those behind x go to a new chain.
+    pub fn cut<O: VersionOrder>(&mut self, order: &O, c: u32, x: u32)
+        ensures { λ _. ⌜ Cuts (asked (now (self .entry)) (length (O·VersionOrder .items (now (order .entry)))) c x) (position (O·VersionOrder .items (now (order .entry)))) c x (now (self .entry)) (now (self .exit)) ⌝ }
+    {
+        if !self.answers(order, c, x) {
+            return;
+        }
+        let made = self.made;
+        if made as usize >= self.chains.len() {
+            return;
+        }
+        let chain = self.chains[c as usize];
+        let (at, left) = skip(order, &self.rows, chain.head, chain.len, x, false);
+        let (tail, rest) = skip(order, &self.rows, at, left, x, true);
+        self.chains[made as usize] = Chain {
+            head: tail,
+            len: rest,
+        };
+        self.chains[c as usize] = Chain {
+            head: chain.head,
+            len: chain.len - left,
+        };
+        self.made = made + 1;
+    }
+
+    // Adds an entry to the chain i, unless its field has one at the version v.
+    pub fn keep<O: VersionOrder>(&mut self, order: &O, i: u32, field: u8, v: u32, old: Value)
+        ensures { λ _. ⌜ Alters (asked (now (self .entry)) (length (O·VersionOrder .items (now (order .entry)))) i v) (now (self .entry)) (now (self .exit)) i (keep (position (O·VersionOrder .items (now (order .entry)))) field v old (entriesOf (now (self .entry)) i)) ⌝ }
+    {
+        if self.has(order, i, field, v) {
+            return;
+        }
+        self.put(order, i, field, v, old);
+    }
+
+    // A new chain without entries, if one is free.
+    pub fn add(&mut self)
+        ensures { λ _. ⌜ Adds (now (self .entry)) (now (self .exit)) ⌝ }
+    {
+        let made = self.made;
+        if made as usize >= self.chains.len() {
+            return;
+        }
+        self.chains[made as usize] = Chain { head: 0, len: 0 };
+        self.made = made + 1;
+    }
+
+    // One version more.
+    pub fn open(&mut self)
+        ensures { λ _. ⌜ Opens (now (self .entry)) (now (self .exit)) ⌝ }
+    {
+        if self.versions < 4096 {
+            self.versions += 1;
+        }
     }
 }

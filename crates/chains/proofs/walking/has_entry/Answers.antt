@@ -1,7 +1,6 @@
 use Rattle.order.specs.Items.{position}
 use Rattle.chains.proofs.Orders.{apart}
-use mathlib.Core.Path.{_≡_, refl, sym}
-use mathlib.Core.Logic.{_⊎_, inl, inr}
+use mathlib.Core.Logic.{inl, inr}
 use Prim.Native.Nat.{_<_}
 use native.Mathlib.Omega.{arith}
 use lib.ListN.{length}

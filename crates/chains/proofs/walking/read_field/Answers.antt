@@ -1,13 +1,8 @@
 use Rattle.order.specs.Items.{position}
-use borrow.Author.Needs.{needs}
-use mathlib.Core.Path.{_≡_, sym, ap, _∙_}
 use Prim.Native.Nat.{_<_}
 use lib.ListN.{length}
 use native.Mathlib.Omega.{arith}
 use Rattle.std.specs.Of.Vec.{vec-items}
-use Rattle.entries.specs.Entries.{read, hits}
-use Rattle.chains.specs.Chains.{chain, Within}
-use Rattle.chains.proofs.Splices.{chain-set}
 use Rattle.chains.proofs.Walks.{within-at, within-step, walk-more, hit, late, other}
 use Rattle.chains.proofs.walking.read_field.Needs as need
 use Rattle.chains.proofs.walking.read_field.Needs.{then-row-field·then-not-before, else-row-field, else-row-field·by·then-row-field·else-not-before, else-row-field·by·else-row-field}

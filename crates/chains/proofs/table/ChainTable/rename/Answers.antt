@@ -1,8 +1,8 @@
 use mathlib.Core.Path.{_≡_, refl, subst}
-use Prim.Native.Nat.{ℕ, _+_}
+use Prim.Native.Nat.{ℕ}
 use native.Mathlib.Omega.{arith}
 use lib.ListN.{length, getD}
-use Rattle.std.specs.Of.Vec.{vec-items, vec-len}
+use Rattle.std.specs.Of.Vec.{vec-items}
 use Rattle.order.specs.Items.{position}
 use Rattle.entries.specs.Entries.{mapped}
 use Rattle.entries.proofs.Counting.{mapped-length}
