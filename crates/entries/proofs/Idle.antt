@@ -11,7 +11,7 @@ use Rattle.std.proofs.shelf.Tests.{cases-bool}
 use Rattle.entries.specs.Entries.{Entry, both, hits, entry, read, AllFrom, Sorted, Single, Lacks, mapped, renamed}
 
 -- no entry of f at or before q
-read-none : {V : Type 0} (pos : ℕ → ℕ) (f q : ℕ) (a : V) (es : List (Entry V)) → AllFrom pos q es → Lacks pos f q es → read pos f q a es ≡ a
+pub read-none : {V : Type 0} (pos : ℕ → ℕ) (f q : ℕ) (a : V) (es : List (Entry V)) → AllFrom pos q es → Lacks pos f q es → read pos f q a es ≡ a
 read-none pos f q a [] h n = refl
 read-none pos f q a (e ∷ es) h n = let i = read-none pos f q a es (h .1) (n .1) in let k = n .0 in grind arith
 

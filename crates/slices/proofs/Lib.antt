@@ -7,3 +7,4 @@ pub mod FieldWrites
 pub mod Opening
 pub mod Bearing
 pub mod Partnering
+pub mod Redirecting

@@ -4,7 +4,7 @@ ghost use Rattle.slices.specs.Births.{Births-stay, Make-sound, One-serves};
 ghost use Rattle.slices.specs.Changes.{Changed-reads, SetAll-sound, SetField-slices};
 ghost use Rattle.slices.specs.Copies.{Serving-tells};
 ghost use Rattle.slices.specs.Openings.{Open-sound};
-ghost use Rattle.slices.specs.Partners.{Split-idle};
+ghost use Rattle.slices.specs.Partners.{Partners-found, Split-idle, Split-redirects};
 ghost use Rattle.slices.specs.Splits.{Split-sound};
 
 // A split keeps the copies sound and every slice, and touches only partners.
@@ -37,6 +37,14 @@ pub fn make_keeps() -> u8
     ensures sound { λ _. ⌜ Make-sound ⌝ }
     ensures one { λ _. ⌜ One-serves ⌝ }
     ensures births { λ _. ⌜ Births-stay ⌝ }
+{
+    0
+}
+
+// A split visits the copies that the split copy names, and redirects them to the new one.
+pub fn partners_suffice() -> u8
+    ensures redirects { λ _. ⌜ Split-redirects ⌝ }
+    ensures found { λ _. ⌜ Partners-found ⌝ }
 {
     0
 }
