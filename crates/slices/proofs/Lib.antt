@@ -8,3 +8,4 @@ pub mod Opening
 pub mod Bearing
 pub mod Partnering
 pub mod Redirecting
+pub mod Threading

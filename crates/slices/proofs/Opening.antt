@@ -30,16 +30,16 @@ lt-up q a p h k = grind arith
 up-lt : (q a p : ℕ) → 0 < q → down q p < a → p < up q a
 up-lt q a p h k = grind arith
 
-up-mono : (q a b : ℕ) → a < b → up q a < up q b
+pub up-mono : (q a b : ℕ) → a < b → up q a < up q b
 up-mono q a b h = grind arith
 
-up-cancel : (q a b : ℕ) → up q a < up q b → a < b
+pub up-cancel : (q a b : ℕ) → up q a < up q b → a < b
 up-cancel q a b h = grind arith
 
 up-same : (q a b : ℕ) → up q a ≡ up q b → a ≡ b
 up-same q a b h = grind arith
 
-up-mono-le : (q a b : ℕ) → a ≤ b → up q a ≤ up q b
+pub up-mono-le : (q a b : ℕ) → a ≤ b → up q a ≤ up q b
 up-mono-le q a b h = grind arith
 
 pub down-lt : (q p n : ℕ) → 0 < q → q ≤ n → p < suc n → down q p < n

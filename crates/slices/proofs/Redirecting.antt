@@ -46,20 +46,22 @@ Free d f es = ValuesOf (λ v. namesOne d v ≡ false) f es
 read-values : (P : Value → Type 0) (pos : ℕ → ℕ) (f p : ℕ) (a : Value) (es : List (Entry Value)) → P a → ValuesOf P f es → P (read pos f p a es)
 read-values P pos f p a [] h k = h
 read-values P pos f p a (e ∷ es) h k =
-    elim (cases-bool (hits pos f p e))
-    [ inl t ↦ let ef : e .field ≡ f = grind arith in rw t (read-values P pos f p (e .value) es (k .0 ef) (k .1))
-    | inr t ↦ rw t (read-values P pos f p a es h (k .1)) ]
+    elim (cases-bool (hits pos f p e)) [
+      | inl t ↦ let ef : e .field ≡ f = grind arith in rw t (read-values P pos f p (e .value) es (k .0 ef) (k .1))
+      | inr t ↦ rw t (read-values P pos f p a es h (k .1))
+    ]
 
 mapped-same : (pos : ℕ → ℕ) (c d f x : ℕ) (es : List (Entry Value)) → Free d f es → mapped pos (swapped c d) f x es ≡ mapped pos (redirect c d) f x es
 mapped-same pos c d f x [] k = refl
 mapped-same pos c d f x (e ∷ es) k =
     let i = mapped-same pos c d f x es (k .1) in
-    elim (cases-bool (both (eqb (e .field) f) (leb x (pos (e .version)))))
-    [ inl t ↦
-        let ef : e .field ≡ f = grind arith in
-        let s = redirect-same c d (e .value) (k .0 ef) in
-        rw t (ap (λ (v : Value). entry (e .version) (e .field) v ∷ mapped pos (swapped c d) f x es) s ∙ ap (λ (l : List (Entry Value)). entry (e .version) (e .field) (redirect c d (e .value)) ∷ l) i)
-    | inr t ↦ rw t (ap (λ (l : List (Entry Value)). e ∷ l) i) ]
+    elim (cases-bool (both (eqb (e .field) f) (leb x (pos (e .version))))) [
+      | inl t ↦
+          let ef : e .field ≡ f = grind arith in
+          let s = redirect-same c d (e .value) (k .0 ef) in
+          rw t (ap (λ (v : Value). entry (e .version) (e .field) v ∷ mapped pos (swapped c d) f x es) s ∙ ap (λ (l : List (Entry Value)). entry (e .version) (e .field) (redirect c d (e .value)) ∷ l) i)
+      | inr t ↦ rw t (ap (λ (l : List (Entry Value)). e ∷ l) i)
+    ]
 
 renamed-same : (pos : ℕ → ℕ) (c d f x : ℕ) (a : Value) (es : List (Entry Value)) → namesOne d a ≡ false → Free d f es
     → renamed pos (names c d) (swapped c d) f x a es ≡ renamed pos (namesOne c) (redirect c d) f x a es
@@ -75,18 +77,20 @@ renamed-same pos c d f x a es h k =
 
 -- other fields do not matter
 free-put : (P : Value → Type 0) (pos : ℕ → ℕ) (f g u : ℕ) (w : Value) (es : List (Entry Value)) → (g ≡ f → ⊥) → ValuesOf P f es → ValuesOf P f (put pos g u w es)
-free-put P pos f g u w [] n k = ((λ e. absurd (n e)) , tt)
+free-put P pos f g u w [] n k = ((λ e. absurd (n e)), tt)
 free-put P pos f g u w (e ∷ es) n k =
-    elim (cases-bool (ltb (pos u) (pos (e .version))))
-    [ inl a ↦ rw a ((λ q. absurd (n q)) , k)
-    | inr a ↦ rw a (elim (cases-bool (sets pos g (pos u) e)) [ inl b ↦ rw b ((λ q. absurd (n q)) , k .1) | inr b ↦ rw b (k .0 , free-put P pos f g u w es n (k .1)) ]) ]
+    elim (cases-bool (ltb (pos u) (pos (e .version)))) [
+      | inl a ↦ rw a ((λ q. absurd (n q)), k)
+      | inr a ↦ rw a (elim (cases-bool (sets pos g (pos u) e)) [ inl b ↦ rw b ((λ q. absurd (n q)), k .1) | inr b ↦ rw b (k .0, free-put P pos f g u w es n (k .1)) ])
+    ]
 
 free-mapped : (P : Value → Type 0) (pos : ℕ → ℕ) (r : Value → Value) (f g x : ℕ) (es : List (Entry Value)) → (g ≡ f → ⊥) → ValuesOf P f es → ValuesOf P f (mapped pos r g x es)
 free-mapped P pos r f g x [] n k = tt
 free-mapped P pos r f g x (e ∷ es) n k =
-    elim (cases-bool (both (eqb (e .field) g) (leb x (pos (e .version)))))
-    [ inl t ↦ let eg : e .field ≡ g = grind arith in rw t ((λ q. absurd (n (sym eg ∙ q))) , free-mapped P pos r f g x es n (k .1))
-    | inr t ↦ rw t (k .0 , free-mapped P pos r f g x es n (k .1)) ]
+    elim (cases-bool (both (eqb (e .field) g) (leb x (pos (e .version))))) [
+      | inl t ↦ let eg : e .field ≡ g = grind arith in rw t ((λ q. absurd (n (sym eg ∙ q))), free-mapped P pos r f g x es n (k .1))
+      | inr t ↦ rw t (k .0, free-mapped P pos r f g x es n (k .1))
+    ]
 
 free-renamed : (P : Value → Type 0) (pos : ℕ → ℕ) (m : Value → Bool) (r : Value → Value) (f g x : ℕ) (a : Value) (es : List (Entry Value)) → (g ≡ f → ⊥) → ValuesOf P f es → ValuesOf P f (renamed pos m r g x a es)
 free-renamed P pos m r f g x a es n k =
@@ -128,13 +132,14 @@ maps-same pos c d (f ∷ fs) x es o k =
 values-read : (P : Value → Type 0) (pos : ℕ → ℕ) (f : ℕ) (A : ℕ → Value) (es : List (Entry Value)) → Sorted pos es → Single pos es
     → EachVersion (λ v. P (read pos f (pos v) (A (pos v)) es)) es → ValuesOf P f es
 values-read P pos f A [] s d h = tt
-values-read P pos f A (e ∷ es) s d h =
-    ((λ ef.
-        let hit : hits pos f (pos (e .version)) e ≡ true = grind arith in
-        let own : read pos f (pos (e .version)) (A (pos (e .version))) (e ∷ es) ≡ e .value =
-          rw hit (read-none pos f (pos (e .version)) (e .value) es (s .0) (subst (λ (n : ℕ). Lacks pos n (pos (e .version)) es) ef (d .0))) in
-        subst P own (h .0)) ,
-      values-read P pos f (λ p. cond (hits pos f p e) (e .value) (A p)) es (s .1) (d .1) (h .1))
+values-read P pos f A (e ∷ es) s d h = (
+  (λ ef.
+      let hit : hits pos f (pos (e .version)) e ≡ true = grind arith in
+      let own : read pos f (pos (e .version)) (A (pos (e .version))) (e ∷ es) ≡ e .value =
+      rw hit (read-none pos f (pos (e .version)) (e .value) es (s .0) (subst (λ (n : ℕ). Lacks pos n (pos (e .version)) es) ef (d .0))) in
+      subst P own (h .0)),
+  values-read P pos f (λ p. cond (hits pos f p e) (e .value) (A p)) es (s .1) (d .1) (h .1),
+)
 
 -- nothing names a copy that is not there
 below-free : (d k : ℕ) → k < d → eqb k d ≡ false
@@ -148,12 +153,11 @@ value-free pos M S p i f s (From k l) e = below-free (M .total) k (S .good p .ba
 
 each-of : (P Q : ℕ → Type 0) (es : List (Entry Value)) → ((v : ℕ) → P v → Q v) → EachVersion P es → EachVersion Q es
 each-of P Q [] g h = tt
-each-of P Q (e ∷ es) g h = (g (e .version) (h .0) , each-of P Q es g (h .1))
+each-of P Q (e ∷ es) g h = (g (e .version) (h .0), each-of P Q es g (h .1))
 
 module _ (pos : ℕ → ℕ) (M : Copies) (S : Sound pos M) (i : ℕ) (hi : i < M .total) where
-
   own-serves : Serves pos M (pos (M .copy i .lo)) i
-  own-serves = (hi , le-refl (pos (M .copy i .lo)) , (λ j hj same less. less) , S .shape .known i hi)
+  own-serves = (hi, le-refl (pos (M .copy i .lo)), (λ j hj same less. less), S .shape .known i hi)
 
   first-free : (f : ℕ) → namesOne (M .total) (M .copy i .first f) ≡ false
   first-free f =
@@ -162,26 +166,29 @@ module _ (pos : ℕ → ℕ) (M : Copies) (S : Sound pos M) (i : ℕ) (hi : i < 
   entries-free : (f : ℕ) → Free (M .total) f (M .copy i .entries)
   entries-free f =
       values-read (λ v. namesOne (M .total) v ≡ false) pos f (λ _. M .copy i .first f) (M .copy i .entries) (S .shape .copies i hi .sorted) (S .shape .copies i hi .once)
-        (each-of (λ v. Serves pos M (pos v) i) (λ v. namesOne (M .total) (read pos f (pos v) (M .copy i .first f) (M .copy i .entries)) ≡ false) (M .copy i .entries)
-          (λ v s. value-free pos M S (pos v) i f s (valueAt pos (pos v) (M .copy i) f) refl) (S .shape .hosted i hi))
+      (each-of (λ v. Serves pos M (pos v) i) (λ v. namesOne (M .total) (read pos f (pos v) (M .copy i .first f) (M .copy i .entries)) ≡ false) (M .copy i .entries)
+      (λ v s. value-free pos M S (pos v) i f s (valueAt pos (pos v) (M .copy i) f) refl) (S .shape .hosted i hi))
 
 naming-once : Once naming
-naming-once = (refl , (refl , (refl , (refl , (refl , tt)))))
+naming-once = (refl, (refl, (refl, (refl, (refl, tt)))))
 
 pub split-redirects : Split-redirects
 split-redirects pos M c x i here S hi =
     let d = M .total in
     let k = M .copy i in
-    elim (cases-lt (pos (M .copy i .lo)) (pos x))
-    [ inl l ↦
-        rw (lt-leb (pos x) (pos (M .copy i .lo)) l)
-        (elim (cases-bool here)
-          [ inl y ↦ rw y (renames-same pos c (M .total) naming x (M .copy i .first) (M .copy i .entries) naming-once (first-free pos M S i hi) (entries-free pos M S i hi) , (λ f. refl))
-          | inr y ↦ rw y (refl , (λ f. refl)) ])
-    | inr g ↦
-        rw (le-leb (pos x) (pos (M .copy i .lo)) g)
-        (maps-same pos c (M .total) naming (pos x) (M .copy i .entries) naming-once (entries-free pos M S i hi) ,
-          (λ f. ap (λ (v : Value). cond (eqb (times f naming) 0) (M .copy i .first f) v) (redirect-same c (M .total) (M .copy i .first f) (first-free pos M S i hi f)))) ]
+    elim (cases-lt (pos (M .copy i .lo)) (pos x)) [
+      | inl l ↦
+          rw (lt-leb (pos x) (pos (M .copy i .lo)) l)
+          (elim (cases-bool here) [
+            | inl y ↦ rw y (renames-same pos c (M .total) naming x (M .copy i .first) (M .copy i .entries) naming-once (first-free pos M S i hi) (entries-free pos M S i hi), (λ f. refl))
+            | inr y ↦ rw y (refl, (λ f. refl))
+          ])
+      | inr g ↦
+          rw (le-leb (pos x) (pos (M .copy i .lo)) g) (
+            maps-same pos c (M .total) naming (pos x) (M .copy i .entries) naming-once (entries-free pos M S i hi),
+            (λ f. ap (λ (v : Value). cond (eqb (times f naming) 0) (M .copy i .first f) v) (redirect-same c (M .total) (M .copy i .first f) (first-free pos M S i hi f))),
+          )
+    ]
 
 -- who names the split copy is named by it
 names-one : (c d : ℕ) (v : Value) → namesOne d v ≡ false → (namesOne c v ≡ true → ⊥) → names c d v ≡ false
@@ -194,9 +201,8 @@ bool-clash : (b : Bool) → b ≡ true → b ≡ false → ⊥
 bool-clash b x y = let z : _≡_ {A = ℕ} 0 1 = cc in omega arith
 
 module _ (pos : ℕ → ℕ) (M : Copies) (c x i : ℕ) (S : Sound pos M) (sv : Serves pos M (pos x) c)
-  (at-x : (f : ℕ) → namesOne i (valueAt pos (pos x) (M .copy c) f) ≡ false)
-  (later : (f : ℕ) → ValuesOf (λ v. namesOne i v ≡ false) f (entriesBehind pos (pos x) (M .copy c .entries))) where
-
+    (at-x : (f : ℕ) → namesOne i (valueAt pos (pos x) (M .copy c) f) ≡ false)
+    (later : (f : ℕ) → ValuesOf (λ v. namesOne i v ≡ false) f (entriesBehind pos (pos x) (M .copy c .entries))) where
   -- from x on c never names i
   quiet : (p f : ℕ) → pos x ≤ p → namesOne i (valueAt pos p (M .copy c) f) ≡ false
   quiet p f h =
@@ -209,9 +215,10 @@ module _ (pos : ℕ → ℕ) (M : Copies) (c x i : ℕ) (S : Sound pos M) (sv : 
   told p f h s (To k) e t =
       let q = S .good p .named i f k s e .1 in
       let ec = eq-is k c t in
-      elim q
-      [ inl z ↦ bool-clash (namesOne i (valueAt pos p (M .copy c) 3)) (ap (λ (j : ℕ). namesOne i (valueAt pos p (M .copy j) 3)) (sym ec) ∙ (ap (namesOne i) z ∙ eq-eqb i i refl)) (quiet p 3 h)
-      | inr z ↦ bool-clash (namesOne i (valueAt pos p (M .copy c) 4)) (ap (λ (j : ℕ). namesOne i (valueAt pos p (M .copy j) 4)) (sym ec) ∙ (ap (namesOne i) z ∙ eq-eqb i i refl)) (quiet p 4 h) ]
+      elim q [
+        | inl z ↦ bool-clash (namesOne i (valueAt pos p (M .copy c) 3)) (ap (λ (j : ℕ). namesOne i (valueAt pos p (M .copy j) 3)) (sym ec) ∙ (ap (namesOne i) z ∙ eq-eqb i i refl)) (quiet p 3 h)
+        | inr z ↦ bool-clash (namesOne i (valueAt pos p (M .copy c) 4)) (ap (λ (j : ℕ). namesOne i (valueAt pos p (M .copy j) 4)) (sym ec) ∙ (ap (namesOne i) z ∙ eq-eqb i i refl)) (quiet p 4 h)
+      ]
   told p f h s (From k l) e t =
       let q = S .good p .backed i f k l s e .1 in
       let ec = eq-is k c t in
@@ -220,4 +227,4 @@ module _ (pos : ℕ → ℕ) (M : Copies) (c x i : ℕ) (S : Sound pos M) (sv : 
 pub partners-found : Partners-found
 partners-found pos M c x i S sv at-x later p f h s =
     names-one c (M .total) (valueAt pos p (M .copy i) f) (value-free pos M S p i f s (valueAt pos p (M .copy i) f) refl)
-      (told pos M c x i S sv at-x later p f h s (valueAt pos p (M .copy i) f) refl)
+    (told pos M c x i S sv at-x later p f h s (valueAt pos p (M .copy i) f) refl)

@@ -5,3 +5,4 @@ pub mod Changes
 pub mod Openings
 pub mod Births
 pub mod Partners
+pub mod Threads

@@ -45,13 +45,20 @@ redirectMaps pos c d (f ∷ fs) x es = mapped pos (redirect c d) f x (redirectMa
 abbrev pub redirectedCopy : (ℕ → ℕ) → List ℕ → ℕ → ℕ → ℕ → Bool → Copy → Copy
 redirectedCopy pos fs c d x here k =
     cond (leb (pos x) (pos (k .lo)))
-    (record
-      { serial = k .serial; key = k .key; lo = k .lo
-      ; first = λ f. cond (eqb (times f fs) 0) (k .first f) (redirect c d (k .first f))
-      ; entries = redirectMaps pos c d fs (pos x) (k .entries) })
-    (record
-      { serial = k .serial; key = k .key; lo = k .lo; first = k .first
-      ; entries = cond here (redirects pos c d fs x (k .first) (k .entries)) (k .entries) })
+    (record {
+      serial = k .serial;
+      key = k .key;
+      lo = k .lo;
+      first = λ f. cond (eqb (times f fs) 0) (k .first f) (redirect c d (k .first f));
+      entries = redirectMaps pos c d fs (pos x) (k .entries);
+    })
+    (record {
+      serial = k .serial;
+      key = k .key;
+      lo = k .lo;
+      first = k .first;
+      entries = cond here (redirects pos c d fs x (k .first) (k .entries)) (k .entries);
+    })
 
 -- P holds of the value of each entry of the field f
 abbrev pub ValuesOf : (Value → Type 0) → ℕ → List (Entry Value) → Type 0

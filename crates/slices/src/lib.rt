@@ -5,6 +5,7 @@ ghost use Rattle.slices.specs.Changes.{Changed-reads, SetAll-sound, SetField-s
 ghost use Rattle.slices.specs.Copies.{Serving-tells};
 ghost use Rattle.slices.specs.Openings.{Open-sound};
 ghost use Rattle.slices.specs.Partners.{Partners-found, Split-idle, Split-redirects};
+ghost use Rattle.slices.specs.Threads.{Owns-serves, Threads-stay};
 ghost use Rattle.slices.specs.Splits.{Split-sound};
 
 // A split keeps the copies sound and every slice, and touches only partners.
@@ -45,6 +46,14 @@ pub fn make_keeps() -> u8
 pub fn partners_suffice() -> u8
     ensures redirects { λ _. ⌜ Split-redirects ⌝ }
     ensures found { λ _. ⌜ Partners-found ⌝ }
+{
+    0
+}
+
+// The next copy of a node tells whether a copy serves a version, and each step keeps the next copies.
+pub fn threads_hold() -> u8
+    ensures owns { λ _. ⌜ Owns-serves ⌝ }
+    ensures stay { λ _. ⌜ Threads-stay ⌝ }
 {
     0
 }
