@@ -1,4 +1,5 @@
 -- A chain that comes in without entries, and a version that comes in.
+use mathlib.Core.Bool.{true}
 use mathlib.Core.Path.{_≡_, sym, ap, subst, _∙_}
 use mathlib.Core.List.{List}
 use mathlib.Core.Logic.{inl, inr}
@@ -10,6 +11,10 @@ use Rattle.std.proofs.shelf.Tests.{cases-eq}
 use Rattle.chains.specs.declared.row.EntryRow.{EntryRow}
 use Rattle.chains.specs.declared.row.Chain.{Chain}
 use Rattle.chains.specs.Chains.{blank, node}
+use Rattle.slices.proofs.Serving.{both-true, lt-is}
+use Rattle.entries.specs.Entries.{both}
+use lib.Dec.{ltb}
+use Rattle.chains.specs.Views.{tablesFit}
 use Rattle.chains.specs.Sound.{Sound, chainAt, noChain}
 
 module _ (cs : List Chain) (rows : List EntryRow) (made used k : ℕ) (S : Sound cs rows made used k) (lm : made < length cs) where
@@ -51,3 +56,16 @@ module _ (cs : List Chain) (rows : List EntryRow) (made used k : ℕ) (S : Sound
 pub open-sound : (cs : List Chain) (rows : List EntryRow) (made used k : ℕ) → Sound cs rows made used k → Sound cs rows made used (k + 1)
 open-sound cs rows made used k S =
     ((λ i li. (S .0 i li .0, (λ a la. let q = S .0 i li .1 a la in omega (arith, q)), S .0 i li .2)), S .1, S .2)
+
+-- a table without chains, and one with the first chain
+none-sound : (cs : List Chain) (rows : List EntryRow) (k : ℕ) → Sound cs rows 0 0 k
+none-sound cs rows k = ((λ i li. absurd (omega (arith, li))), (λ i j a b li lj la lb e. absurd (omega (arith, li))), (λ i li. absurd (omega (arith, li))))
+
+pub made-sound : (cs : List Chain) (rows : List EntryRow) → 0 < length cs → Sound (set cs 0 noChain) rows 1 0 1
+made-sound cs rows l = add-sound cs rows 0 0 1 (none-sound cs rows 1) l
+
+pub fit-are : (n m : ℕ) → true ≡ tablesFit n m → (0 < n) × (n < 20482) × (m < 163841)
+fit-are n m h =
+    let a = both-true (ltb 0 n) (both (ltb n 20482) (ltb m 163841)) (sym h) in
+    let b = both-true (ltb n 20482) (ltb m 163841) (a .1) in
+    (lt-is 0 n (a .0), lt-is n 20482 (b .0), lt-is m 163841 (b .1))

@@ -3,6 +3,7 @@
 --   entriesOf     the entries of a chain
 --   asked         a call that the table answers: the chain is there, the version known, and the order has as many versions as the table
 --   Alters        one chain becomes a given list, and the others stay
+--   tablesFit, Made    a table can be made of so many chains and rows; the table at its making
 --   Adds          a chain without entries comes in
 --   Opens         one version more
 --   Cuts          a chain is parted at a version, and what stands behind it is a new chain
@@ -66,3 +67,17 @@ pub record Opens (t t′ : ChainTable) : Type 0 where
   pub rows : vec-len (t′ .rows) ≡ vec-len (t .rows)
   pub used : t′ .used ≡ t .used
   pub others : (j : ℕ) → entriesOf t′ j ≡ entriesOf t j
+
+-- there is a chain, and there are no more chains and rows than any limits ask for
+abbrev pub tablesFit : ℕ → ℕ → Bool
+tablesFit chains rows = both (ltb 0 chains) (both (ltb chains 20482) (ltb rows 163841))
+
+-- a table of so many chains and rows: the chain 0 is in use, without entries, no row is taken, and there is one version
+pub record Made (chains rows : ℕ) (t : ChainTable) : Type 0 where
+  pub fit : tablesFit chains rows ≡ true
+  pub chains-are : vec-len (t .chains) ≡ chains
+  pub rows-are : vec-len (t .rows) ≡ rows
+  pub made : t .made ≡ 1
+  pub used : t .used ≡ 0
+  pub versions : t .versions ≡ 1
+  pub empty : entriesOf t 0 ≡ []

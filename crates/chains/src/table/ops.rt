@@ -1,14 +1,17 @@
 // The calls of the table of chains. Each is safe for every order; its equation holds where the table answers the call.
 ghost use mathlib.Core.Path.{_≡_};
-ghost use mathlib.Core.Bool.{true};
+ghost use mathlib.Core.Bool.{false, true};
 ghost use Prim.Native.Nat.{ℕ, _<_};
 ghost use lib.ListN.{length};
+ghost use Rattle.std.specs.Of.Vec.{vec-len};
+ghost use Rattle.std.specs.Results.{Cases};
 ghost use Rattle.order.specs.Items.{position};
 ghost use Rattle.entries.specs.Counts.{versionAt};
 ghost use Rattle.entries.specs.Entries.{has, keep, mapped, put, read};
 ghost use Rattle.slices.specs.Partners.{redirect};
-ghost use Rattle.chains.specs.Views.{Adds, Alters, Cuts, Opens, asked, entriesOf};
+ghost use Rattle.chains.specs.Views.{Adds, Alters, Cuts, Made, Opens, asked, entriesOf, tablesFit};
 use crate::row::Chain;
+use crate::row::EntryRow;
 use crate::table::ChainTable;
 use crate::walking::has_entry;
 use crate::walking::put_entry;
@@ -19,7 +22,39 @@ use crate::walking::version_at;
 use fields::kinds::Value;
 use order::VersionOrder;
 
+// Whether a table can be made of so many chains and rows.
+fn fit(chains: usize, rows: usize) -> bool
+    ensures { λ r. ⌜ r ≡ tablesFit chains rows ⌝ }
+{
+    if chains > 0 {
+        if chains < 20482 { rows < 163841 } else { false }
+    } else {
+        false
+    }
+}
+
 impl ChainTable {
+    // A table over the chains and rows given, which are handed back where they are too few or too many.
+    pub fn new(
+        chains: Vec<Chain>,
+        rows: Vec<EntryRow>,
+    ) -> Result<ChainTable, (Vec<Chain>, Vec<EntryRow>)>
+        ensures { λ r. ⌜ Cases r (λ t. Made (vec-len chains) (vec-len rows) t) (λ p. (tablesFit (vec-len chains) (vec-len rows) ≡ false) × (p .0 ≡ chains) × (p .1 ≡ rows)) ⌝ }
+    {
+        if !fit(chains.len(), rows.len()) {
+            return Err((chains, rows));
+        }
+        let mut all = chains;
+        all[0] = Chain { head: 0, len: 0 };
+        Ok(ChainTable {
+            chains: all,
+            rows,
+            made: 1,
+            used: 0,
+            versions: 1,
+        })
+    }
+
     // Whether the chain i is in use, the version v known, and the order of as many versions as the table.
     fn answers<O: VersionOrder>(&self, order: &O, i: u32, v: u32) -> bool
         ensures { λ r. ⌜ r ≡ asked (now (self .entry)) (length (O·VersionOrder .items (now (order .entry)))) i v ⌝ }
