@@ -14,10 +14,11 @@ use Rattle.fields.specs.declared.kinds.Value.the-variants.{Number, Nil, To, Fro
 use Rattle.entries.specs.Entries.{Entry, both, hits, sets, entry, read, AllFrom, Sorted, Single, Lacks, entriesBehind, put, mapped, renamed, EachVersion}
 use Rattle.entries.proofs.Parting.{read-late, read-behind}
 use Rattle.entries.proofs.Idle.{read-none}
+use Rattle.entries.proofs.Renaming.{renamed-reads, sorted-renamed, single-renamed}
 use Rattle.slices.specs.Slices.{Coherent, swap, swapped}
 use Rattle.slices.specs.Copies.{Copy, Copies, valueAt, Serves, CopyOk, Sound}
 use Rattle.slices.specs.Splits.{times, naming, names, renames, maps, renamedCopy}
-use Rattle.slices.specs.Partners.{namesOne, redirect, redirects, redirectMaps, redirectedCopy, ValuesOf, Split-redirects, Partners-found}
+use Rattle.slices.specs.Partners.{namesOne, redirect, redirects, redirectMaps, redirectedCopy, ValuesOf, Split-redirects, Redirect-twice, Partners-found}
 
 -- where the new copy is not named, exchanging and redirecting are the same
 swap-free : (c d k : ℕ) → eqb k d ≡ false → swap c d k ≡ cond (eqb k c) d k
@@ -228,3 +229,156 @@ pub partners-found : Partners-found
 partners-found pos M c x i S sv at-x later p f h s =
     names-one c (M .total) (valueAt pos p (M .copy i) f) (value-free pos M S p i f s (valueAt pos p (M .copy i) f) refl)
     (told pos M c x i S sv at-x later p f h s (valueAt pos p (M .copy i) f) refl)
+
+-- redirecting twice: after the first time no value from x on names c
+abbrev Quiet : (ℕ → ℕ) → ℕ → ℕ → ℕ → List (Entry Value) → Type 0
+Quiet pos c f x [] = Unit {0}
+Quiet pos c f x (e ∷ es) = (e .field ≡ f → x ≤ pos (e .version) → namesOne c (e .value) ≡ false) × Quiet pos c f x es
+
+turned : (c d k : ℕ) → (d ≡ c → ⊥) → eqb (cond (eqb k c) d k) c ≡ false
+turned c d k n = elim (cases-bool (eqb k c)) [ inl t ↦ rw t (ne-eqb d c n) | inr t ↦ rw t t ]
+
+redirect-quiet : (c d : ℕ) (v : Value) → (d ≡ c → ⊥) → namesOne c (redirect c d v) ≡ false
+redirect-quiet c d (Number n) h = refl
+redirect-quiet c d Nil h = refl
+redirect-quiet c d (To k) h = turned c d k h
+redirect-quiet c d (From k l) h = turned c d k h
+
+redirect-idle : (c d : ℕ) (v : Value) → namesOne c v ≡ false → redirect c d v ≡ v
+redirect-idle c d (Number n) h = refl
+redirect-idle c d Nil h = refl
+redirect-idle c d (To k) h = rw h refl
+redirect-idle c d (From k l) h = rw h refl
+
+quiet-idle : (pos : ℕ → ℕ) (c d f x : ℕ) (es : List (Entry Value)) → Quiet pos c f x es → mapped pos (redirect c d) f x es ≡ es
+quiet-idle pos c d f x [] q = refl
+quiet-idle pos c d f x (e ∷ es) q =
+    let i = quiet-idle pos c d f x es (q .1) in
+    elim (cases-bool (both (eqb (e .field) f) (leb x (pos (e .version))))) [
+      | inl t ↦
+          let ef : e .field ≡ f = grind arith in
+          let le : x ≤ pos (e .version) = grind arith in
+          let s = redirect-idle c d (e .value) (q .0 ef le) in
+          rw t (ap (λ (v : Value). entry (e .version) (e .field) v ∷ mapped pos (redirect c d) f x es) s ∙ ap (λ (l : List (Entry Value)). e ∷ l) i)
+      | inr t ↦ rw t (ap (λ (l : List (Entry Value)). e ∷ l) i)
+    ]
+
+quiet-made : (pos : ℕ → ℕ) (c d f x : ℕ) (es : List (Entry Value)) → (d ≡ c → ⊥) → Quiet pos c f x (mapped pos (redirect c d) f x es)
+quiet-made pos c d f x [] n = tt
+quiet-made pos c d f x (e ∷ es) n =
+    elim (cases-bool (both (eqb (e .field) f) (leb x (pos (e .version))))) [
+      | inl t ↦ rw t ((λ _ _. redirect-quiet c d (e .value) n), quiet-made pos c d f x es n)
+      | inr t ↦ rw t ((λ a b. let z : ⊥ = grind arith in absurd z), quiet-made pos c d f x es n)
+    ]
+
+quiet-mapped : (pos : ℕ → ℕ) (c d f g x : ℕ) (es : List (Entry Value)) → (d ≡ c → ⊥) → Quiet pos c f x es → Quiet pos c f x (mapped pos (redirect c d) g x es)
+quiet-mapped pos c d f g x [] n q = tt
+quiet-mapped pos c d f g x (e ∷ es) n q =
+    elim (cases-bool (both (eqb (e .field) g) (leb x (pos (e .version))))) [
+      | inl t ↦ rw t ((λ _ _. redirect-quiet c d (e .value) n), quiet-mapped pos c d f g x es n (q .1))
+      | inr t ↦ rw t (q .0, quiet-mapped pos c d f g x es n (q .1))
+    ]
+
+quiet-put : (pos : ℕ → ℕ) (c f g u x : ℕ) (w : Value) (es : List (Entry Value)) → namesOne c w ≡ false → Quiet pos c f x es → Quiet pos c f x (put pos g u w es)
+quiet-put pos c f g u x w [] h q = ((λ _ _. h), tt)
+quiet-put pos c f g u x w (e ∷ es) h q =
+    elim (cases-bool (ltb (pos u) (pos (e .version)))) [
+      | inl a ↦ rw a ((λ _ _. h), q)
+      | inr a ↦ rw a (elim (cases-bool (sets pos g (pos u) e)) [ inl b ↦ rw b ((λ _ _. h), q .1) | inr b ↦ rw b (q .0, quiet-put pos c f g u x w es h (q .1)) ])
+    ]
+
+quiet-renamed : (pos : ℕ → ℕ) (c d f g x : ℕ) (a : Value) (es : List (Entry Value)) → (d ≡ c → ⊥) → (g ≡ f) ⊎ Quiet pos c f (pos x) es
+    → Quiet pos c f (pos x) (renamed pos (namesOne c) (redirect c d) g x a es)
+quiet-renamed pos c d f g x a es n q =
+    let m : Quiet pos c f (pos x) (mapped pos (redirect c d) g (pos x) es) =
+    elim q [ inl e ↦ subst (λ (z : ℕ). Quiet pos c f (pos x) (mapped pos (redirect c d) z (pos x) es)) (sym e) (quiet-made pos c d f (pos x) es n) | inr k ↦ quiet-mapped pos c d f g (pos x) es n k ] in
+    elim (cases-bool (namesOne c (read pos g (pos x) a es)))
+    [ inl t ↦ rw t (quiet-put pos c f g x (pos x) _ _ (redirect-quiet c d (read pos g (pos x) a es) n) m) | inr t ↦ rw t m ]
+
+quiet-redirects : (pos : ℕ → ℕ) (c d : ℕ) (fs : List ℕ) (f x : ℕ) (first : ℕ → Value) (es : List (Entry Value)) → (d ≡ c → ⊥) → (times f fs ≡ 0 → ⊥) → Quiet pos c f (pos x) (redirects pos c d fs x first es)
+quiet-redirects pos c d [] f x first es n t = absurd (t refl)
+quiet-redirects pos c d (g ∷ gs) f x first es n t =
+    quiet-renamed pos c d f g x (first g) (redirects pos c d gs x first es) n
+    (elim (cases-eq g f) [
+      | inl e ↦ inl e
+      | inr m ↦ let t′ : times f gs ≡ 0 → ⊥ = rw (ne-eqb g f m) at t in inr (quiet-redirects pos c d gs f x first es n t′)
+    ])
+
+quiet-maps : (pos : ℕ → ℕ) (c d : ℕ) (fs : List ℕ) (f x : ℕ) (es : List (Entry Value)) → (d ≡ c → ⊥) → (times f fs ≡ 0 → ⊥) → Quiet pos c f x (redirectMaps pos c d fs x es)
+quiet-maps pos c d [] f x es n t = absurd (t refl)
+quiet-maps pos c d (g ∷ gs) f x es n t =
+    elim (cases-eq g f) [
+      | inl e ↦ subst (λ (z : ℕ). Quiet pos c f x (mapped pos (redirect c d) z x (redirectMaps pos c d gs x es))) (sym e) (quiet-made pos c d f x (redirectMaps pos c d gs x es) n)
+      | inr m ↦ let t′ : times f gs ≡ 0 → ⊥ = rw (ne-eqb g f m) at t in quiet-mapped pos c d f g x (redirectMaps pos c d gs x es) n (quiet-maps pos c d gs f x es n t′)
+    ]
+
+sorted-redirects : (pos : ℕ → ℕ) (c d : ℕ) (fs : List ℕ) (x : ℕ) (first : ℕ → Value) (es : List (Entry Value)) → Sorted pos es → Sorted pos (redirects pos c d fs x first es)
+sorted-redirects pos c d [] x first es s = s
+sorted-redirects pos c d (f ∷ fs) x first es s = sorted-renamed pos (namesOne c) (redirect c d) f x (first f) _ (sorted-redirects pos c d fs x first es s)
+
+single-redirects : (pos : ℕ → ℕ) (c d : ℕ) (fs : List ℕ) (x : ℕ) (first : ℕ → Value) (es : List (Entry Value)) → Sorted pos es → Single pos es → Single pos (redirects pos c d fs x first es)
+single-redirects pos c d [] x first es s h = h
+single-redirects pos c d (f ∷ fs) x first es s h = single-renamed pos (namesOne c) (redirect c d) f x (first f) _ (sorted-redirects pos c d fs x first es s) (single-redirects pos c d fs x first es s h)
+
+-- at x too nothing names c
+quiet-read : (pos : ℕ → ℕ) (c d : ℕ) (fs : List ℕ) (f x : ℕ) (first : ℕ → Value) (es : List (Entry Value)) → Sorted pos es → Single pos es → (d ≡ c → ⊥) → (times f fs ≡ 0 → ⊥)
+    → namesOne c (read pos f (pos x) (first f) (redirects pos c d fs x first es)) ≡ false
+quiet-read pos c d [] f x first es s h n t = absurd (t refl)
+quiet-read pos c d (g ∷ gs) f x first es s h n t =
+    let R = renamed-reads pos (redirects pos c d gs x first es) (sorted-redirects pos c d gs x first es s) (single-redirects pos c d gs x first es s h)
+    (namesOne c) (redirect c d) (redirect-idle c d) g x (pos x) (first g) in
+    elim (cases-eq g f) [
+      | inl e ↦
+          subst (λ (z : ℕ). namesOne c (read pos z (pos x) (first z) (renamed pos (namesOne c) (redirect c d) g x (first g) (redirects pos c d gs x first es))) ≡ false) e
+          (ap (namesOne c) (R .1 (le-refl (pos x))) ∙ redirect-quiet c d (read pos g (pos x) (first g) (redirects pos c d gs x first es)) n)
+      | inr m ↦
+          let t′ : times f gs ≡ 0 → ⊥ = rw (ne-eqb g f m) at t in
+          ap (namesOne c) (R .2 f (first f) m) ∙ quiet-read pos c d gs f x first es s h n t′
+    ]
+
+-- fields of which all is quiet stay
+redirects-idle : (pos : ℕ → ℕ) (c d : ℕ) (gs : List ℕ) (x : ℕ) (first : ℕ → Value) (es : List (Entry Value))
+    → ((f : ℕ) → (times f gs ≡ 0 → ⊥) → Quiet pos c f (pos x) es × (namesOne c (read pos f (pos x) (first f) es) ≡ false)) → redirects pos c d gs x first es ≡ es
+redirects-idle pos c d [] x first es k = refl
+redirects-idle pos c d (g ∷ gs) x first es k =
+    let q = k g (λ z. let y : suc (times g gs) ≡ 0 = rw (eq-eqb g g refl) at z in omega (arith, y)) in
+    ap (λ (l : List (Entry Value)). renamed pos (namesOne c) (redirect c d) g x (first g) l)
+    (redirects-idle pos c d gs x first es
+    (λ f t. k f (λ z. t (elim (cases-eq g f) [ inl e ↦ absurd (let y : suc (times f gs) ≡ 0 = rw (eq-eqb g f e) at z in omega (arith, y)) | inr m ↦ (rw (ne-eqb g f m) at z) ]))))
+    ∙ rw (q .1) (quiet-idle pos c d g (pos x) es (q .0))
+
+maps-idle : (pos : ℕ → ℕ) (c d : ℕ) (gs : List ℕ) (x : ℕ) (es : List (Entry Value)) → ((f : ℕ) → (times f gs ≡ 0 → ⊥) → Quiet pos c f x es) → redirectMaps pos c d gs x es ≡ es
+maps-idle pos c d [] x es k = refl
+maps-idle pos c d (g ∷ gs) x es k =
+    ap (λ (l : List (Entry Value)). mapped pos (redirect c d) g x l)
+    (maps-idle pos c d gs x es
+    (λ f t. k f (λ z. t (elim (cases-eq g f) [ inl e ↦ absurd (let y : suc (times f gs) ≡ 0 = rw (eq-eqb g f e) at z in omega (arith, y)) | inr m ↦ (rw (ne-eqb g f m) at z) ]))))
+    ∙ quiet-idle pos c d g x es (k g (λ z. let y : suc (times g gs) ≡ 0 = rw (eq-eqb g g refl) at z in omega (arith, y)))
+
+pub redirect-twice : Redirect-twice
+redirect-twice pos c d x here k n ok =
+    elim (cases-lt (pos (k .lo)) (pos x)) [
+      | inl l ↦
+          let t = lt-leb (pos x) (pos (k .lo)) l in
+          elim (cases-bool here) [
+            | inl y ↦
+                rw (t, y)
+                (rw t (
+                  redirects-idle pos c d naming x (k .first) (redirects pos c d naming x (k .first) (k .entries))
+                      (λ f m. (quiet-redirects pos c d naming f x (k .first) (k .entries) n m, quiet-read pos c d naming f x (k .first) (k .entries) (ok .sorted) (ok .once) n m)),
+                  (λ f. refl),
+                ))
+            | inr y ↦ rw (t, y) (rw t (refl, (λ f. refl)))
+          ]
+      | inr g ↦
+          let t = le-leb (pos x) (pos (k .lo)) g in
+          rw t
+          (rw t (
+            maps-idle pos c d naming (pos x) (redirectMaps pos c d naming (pos x) (k .entries)) (λ f m. quiet-maps pos c d naming f (pos x) (k .entries) n m),
+            (λ f.
+                elim (cases-bool (eqb (times f naming) 0)) [
+                  | inl z ↦ rw z refl
+                  | inr z ↦ rw z (redirect-idle c d (redirect c d (k .first f)) (redirect-quiet c d (k .first f) n))
+                ]),
+          ))
+    ]

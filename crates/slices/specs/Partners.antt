@@ -5,6 +5,7 @@
 --   redirects, redirectMaps, redirectedCopy     entries and a copy in which, from a version on, one copy is named in place of another
 --   ValuesOf                       something holds of the values of a field among entries
 --   Split-redirects                a split renames every copy by redirecting it
+--   Redirect-twice                 redirecting a copy twice is redirecting it once
 --   Split-idle                     the copies that a split leaves as they are
 --   Partners-found                 a copy that names the split one is named by it, at x or by an entry behind x
 use mathlib.Core.Path.{_≡_}
@@ -15,7 +16,7 @@ use lib.Dec.{eqb, leb}
 use Rattle.fields.specs.declared.kinds.Value.{Value}
 use Rattle.fields.specs.declared.kinds.Value.the-variants.{Number, Nil, To, From}
 use Rattle.entries.specs.Entries.{Entry, entriesBehind, mapped, renamed}
-use Rattle.slices.specs.Copies.{Copy, Copies, valueAt, Serves, Sound}
+use Rattle.slices.specs.Copies.{Copy, Copies, valueAt, Serves, CopyOk, Sound}
 use Rattle.slices.specs.Splits.{times, naming, names, renamedCopy, split}
 
 -- the value names the copy c
@@ -70,6 +71,12 @@ abbrev pub Split-redirects : Type 0
 Split-redirects = (pos : ℕ → ℕ) (M : Copies) (c x i : ℕ) (here : Bool) → Sound pos M → i < M .total
     → (renamedCopy pos naming c (M .total) x here (M .copy i) .entries ≡ redirectedCopy pos naming c (M .total) x here (M .copy i) .entries)
     × ((f : ℕ) → renamedCopy pos naming c (M .total) x here (M .copy i) .first f ≡ redirectedCopy pos naming c (M .total) x here (M .copy i) .first f)
+
+-- a copy that was redirected is not altered by being redirected again
+abbrev pub Redirect-twice : Type 0
+Redirect-twice = (pos : ℕ → ℕ) (c d x : ℕ) (here : Bool) (k : Copy) → (d ≡ c → ⊥) → CopyOk pos k
+    → (redirectedCopy pos naming c d x here (redirectedCopy pos naming c d x here k) .entries ≡ redirectedCopy pos naming c d x here k .entries)
+    × ((f : ℕ) → redirectedCopy pos naming c d x here (redirectedCopy pos naming c d x here k) .first f ≡ redirectedCopy pos naming c d x here k .first f)
 
 -- a split leaves every other copy as it is that names the split copy at no version from x on
 abbrev pub Split-idle : Type 0

@@ -4,7 +4,7 @@ ghost use Rattle.slices.specs.Births.{Births-stay, Make-sound, One-serves};
 ghost use Rattle.slices.specs.Changes.{Changed-reads, SetAll-sound, SetField-slices};
 ghost use Rattle.slices.specs.Copies.{Serving-tells};
 ghost use Rattle.slices.specs.Openings.{Open-sound};
-ghost use Rattle.slices.specs.Partners.{Partners-found, Split-idle, Split-redirects};
+ghost use Rattle.slices.specs.Partners.{Partners-found, Redirect-twice, Split-idle, Split-redirects};
 ghost use Rattle.slices.specs.Threads.{Owns-serves, Threads-stay};
 ghost use Rattle.slices.specs.Splits.{Split-sound};
 
@@ -45,6 +45,7 @@ pub fn make_keeps() -> u8
 // A split visits the copies that the split copy names, and redirects them to the new one.
 pub fn partners_suffice() -> u8
     ensures redirects { λ _. ⌜ Split-redirects ⌝ }
+    ensures twice { λ _. ⌜ Redirect-twice ⌝ }
     ensures found { λ _. ⌜ Partners-found ⌝ }
 {
     0
