@@ -1,3 +1,4 @@
+-- What a put leaves of a chain.
 use mathlib.Core.Path.{_≡_, refl, sym, ap, subst, _∙_}
 use mathlib.Core.List.{List, _∷_, _++_}
 use mathlib.Core.Bool.{true, false, cond}

@@ -1,3 +1,4 @@
+-- A row replaced in a chain, and a row put into it.
 use mathlib.Core.Path.{_≡_, refl, ap, subst, _∙_}
 use mathlib.Core.List.{List, _∷_, _++_}
 use mathlib.Core.Logic.{_≢_}

@@ -1,3 +1,4 @@
+-- One turn of a walk that reads a field.
 use mathlib.Core.Path.{_≡_, sym, ap, _∙_}
 use mathlib.Core.List.{List, _∷_}
 use mathlib.Core.Bool.{true, false, cond}

@@ -1,4 +1,10 @@
--- The entries that a chain of rows spells.
+-- The entries that a chain of rows spells, and what a walk or a write keeps of the rows.
+--
+--   entryOf, chain       the entries of a chain
+--   node                 a row of a chain, by its place
+--   Within, Below, Avoids, Once    a chain's rows are in the table, below a number, none of them a given row, all different
+--   Chained              all that a walk needs of a chain; nothing of it needs the order
+--   Off, Frame, Drawn, Shape       what a write leaves: other rows stay; the chain is made of its own rows and one new; links and versions stay
 use mathlib.Core.Path.{_≡_}
 use mathlib.Core.List.{List, [], _∷_}
 use Prim.Native.Nat.{ℕ, zero, suc, _<_}

@@ -1,4 +1,7 @@
 -- How far a walk goes that passes the rows before a version, or at and before it.
+--
+--   passed     the walk passes a version
+--   Skipped    where it stops
 use mathlib.Core.Path.{_≡_}
 use mathlib.Core.List.{List}
 use mathlib.Core.Bool.{Bool, true, false, cond}

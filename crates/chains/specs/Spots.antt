@@ -1,4 +1,7 @@
 -- Where an entry goes in a chain.
+--
+--   Passed     the walk has passed the rows that stay before the entry
+--   Found      the entry takes the place of a row, or goes before it
 use mathlib.Core.Path.{_≡_}
 use mathlib.Core.List.{List, _∷_, _++_}
 use mathlib.Core.Bool.{true, cond}
