@@ -1,0 +1,5 @@
+pub mod Chains
+pub mod Spots
+pub mod Skips
+pub mod Sound
+pub mod Views

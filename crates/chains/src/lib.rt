@@ -1,0 +1,4 @@
+// Chains of entry rows in one table, over any version order.
+pub mod row;
+pub mod table;
+pub mod walking;

@@ -1,0 +1,11 @@
+pub mod Swapping
+pub mod Serving
+pub mod Splitting
+pub mod Changing
+pub mod Cells
+pub mod FieldWrites
+pub mod Opening
+pub mod Bearing
+pub mod Partnering
+pub mod Redirecting
+pub mod Threading

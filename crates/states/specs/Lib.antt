@@ -1,0 +1,3 @@
+pub mod Relinks
+pub mod Nodes
+pub mod Listed
