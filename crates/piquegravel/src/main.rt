@@ -42,8 +42,19 @@ fn run(rt: &LibcRuntime) -> Result<(), AnyError> {
                 *limit,
                 input(rt, file.as_str())?.as_slice(),
             )?,
-            Command::Memory { kind, nodes, changes, file } => {
-                run_memory(rt, *kind, *nodes, *changes, input(rt, file.as_str())?.as_slice())?
+            Command::Memory {
+                kind,
+                nodes,
+                changes,
+                file,
+            } => {
+                run_memory(
+                    rt,
+                    *kind,
+                    *nodes,
+                    *changes,
+                    input(rt, file.as_str())?.as_slice(),
+                )?
             }
             Command::TimeOrder { kind, items } => run_time_order(rt, *kind, *items)?,
         }

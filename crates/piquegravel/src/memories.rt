@@ -45,7 +45,13 @@ fn answer_lines<M: PointerMemory, O: VersionOrder>(
 }
 
 // Writes how many nodes were made and how many changes were accepted, of those that the memory may have.
-fn totals<M: PointerMemory>(rt: &LibcRuntime, mem: &M, output: &mut Output, nodes: u32, changes: u32) -> Result<(), AnyError> {
+fn totals<M: PointerMemory>(
+    rt: &LibcRuntime,
+    mem: &M,
+    output: &mut Output,
+    nodes: u32,
+    changes: u32,
+) -> Result<(), AnyError> {
     let made = nodes.saturating_sub(mem.nodes_left());
     let changed = changes.saturating_sub(mem.changes_left());
     let text = format!(rt.alloc(), "{made} nodes, {changed} changes")?;
@@ -53,7 +59,13 @@ fn totals<M: PointerMemory>(rt: &LibcRuntime, mem: &M, output: &mut Output, node
     output.flush(rt)
 }
 
-pub fn run_memory(rt: &LibcRuntime, kind: MemoryKind, nodes: u32, changes: u32, input: &[u8]) -> Result<(), AnyError> {
+pub fn run_memory(
+    rt: &LibcRuntime,
+    kind: MemoryKind,
+    nodes: u32,
+    changes: u32,
+    input: &[u8],
+) -> Result<(), AnyError> {
     let mut output = Output::new(rt);
     match kind {
         MemoryKind::Single => {

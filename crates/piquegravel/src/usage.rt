@@ -91,7 +91,10 @@ fn read_memory(words: &Vec<String>, at: usize) -> Result<Option<(Command, usize)
     if at >= words.len() || words.len() - at < 7 {
         return Ok(None);
     }
-    if words[at + 1].as_str() != "single" || words[at + 2].as_str() != "-" || words[at + 3].as_str() != "-" {
+    if words[at + 1].as_str() != "single"
+        || words[at + 2].as_str() != "-"
+        || words[at + 3].as_str() != "-"
+    {
         return Ok(None);
     }
     let Some(nodes) = read_limit(words[at + 4].as_str()) else {
@@ -101,7 +104,15 @@ fn read_memory(words: &Vec<String>, at: usize) -> Result<Option<(Command, usize)
         return Ok(None);
     };
     let file = words[at + 6].clone()?;
-    Ok(Some((Command::Memory { kind: MemoryKind::Single, nodes, changes, file }, at + 7)))
+    Ok(Some((
+        Command::Memory {
+            kind: MemoryKind::Single,
+            nodes,
+            changes,
+            file,
+        },
+        at + 7,
+    )))
 }
 
 // A command of one file.

@@ -13,7 +13,7 @@ pub returns-in-Some-2 : need.returns-in-Some-2
 returns-in-Some-2 c =
     c .line-of .ensures ∙ ap (lineOf (c .in-Some-word-of .word)) (c .as-slice .ensures .value)
     ∙ text-line (left (c .words-words .result)) (left (c .part .last .self)) (c .in-Some .part .now) (c .in-Some-word-of .word) _ (c .in-Some .ensures tt .part) (c .in-Some .ensures tt .rest)
-      (c .in-Some-word-of .ensures tt) (sym (ap (mapped vec-items) (c .in-Some-2 .is)) ∙ c .in-Continue-numbers .ensures tt)
+    (c .in-Some-word-of .ensures tt) (sym (ap (mapped vec-items) (c .in-Some-2 .is)) ∙ c .in-Continue-numbers .ensures tt)
     ∙ ap textLine (c .words-words .ensures)
 
 pub returns-in-None : need.returns-in-None
