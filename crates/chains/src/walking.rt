@@ -9,11 +9,11 @@ ghost use Rattle.order.specs.Items.{position};
 ghost use Rattle.entries.specs.Counts.{versionAt};
 ghost use Rattle.entries.specs.Entries.{has, mapped, put, read};
 ghost use Rattle.slices.specs.Partners.{redirect};
-ghost use Rattle.chains.specs.Chains.{Chained, Drawn, Frame, Off, Shape, Within, blank, chain};
-ghost use Rattle.chains.specs.Skips.{Skipped, passed};
-ghost use Rattle.chains.specs.Spots.{Found};
-use crate::row::EntryRow;
-use crate::row::Spot;
+ghost use Rattle.chain_rows.specs.Chains.{Chained, Drawn, Frame, Off, Shape, Within, blank, chain};
+ghost use Rattle.chain_rows.specs.Skips.{Skipped, passed};
+ghost use Rattle.chain_rows.specs.Spots.{Found};
+use chain_rows::row::EntryRow;
+use chain_rows::row::Spot;
 use fields::kinds::Value;
 use order::VersionOrder;
 

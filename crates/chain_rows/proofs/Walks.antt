@@ -7,11 +7,11 @@ use native.Mathlib.Nat.{not-suc-le-zero}
 use native.Mathlib.Omega.{arith}
 use lib.ListN.{length, getD}
 use Rattle.std.proofs.shelf.Lists.{getD-read}
-use Rattle.chains.specs.declared.row.EntryRow.{EntryRow}
+use Rattle.chain_rows.specs.declared.row.EntryRow.{EntryRow}
 use lib.Dec.{ltb}
 use Rattle.fields.specs.declared.kinds.Value.{Value}
 use Rattle.entries.specs.Entries.{read, hits}
-use Rattle.chains.specs.Chains.{blank, entryOf, chain, Within}
+use Rattle.chain_rows.specs.Chains.{blank, entryOf, chain, Within}
 
 less-one : (n : ℕ) → suc n - 1 ≡ n
 less-one n = omega arith

@@ -8,14 +8,13 @@ use native.Mathlib.Omega.{arith}
 use lib.ListN.{length, getD, set}
 use Rattle.std.proofs.shelf.Lists.{getD-set-same, getD-set-other}
 use Rattle.std.proofs.shelf.Tests.{cases-eq}
-use Rattle.chains.specs.declared.row.EntryRow.{EntryRow}
-use Rattle.chains.specs.declared.row.Chain.{Chain}
-use Rattle.chains.specs.Chains.{blank, node}
+use Rattle.chain_rows.specs.declared.row.EntryRow.{EntryRow}
+use Rattle.chain_rows.specs.declared.row.Chain.{Chain}
+use Rattle.chain_rows.specs.Chains.{blank, node}
 use Rattle.slices.proofs.Serving.{both-true, lt-is}
 use Rattle.entries.specs.Entries.{both}
 use lib.Dec.{ltb}
-use Rattle.chains.specs.Views.{tablesFit}
-use Rattle.chains.specs.Sound.{Sound, chainAt, noChain}
+use Rattle.chain_rows.specs.Sound.{Sound, chainAt, noChain, tablesFit}
 
 module _ (cs : List Chain) (rows : List EntryRow) (made used k : ℕ) (S : Sound cs rows made used k) (lm : made < length cs) where
   pub add-new : chainAt (set cs made noChain) made ≡ noChain

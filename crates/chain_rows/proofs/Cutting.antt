@@ -9,14 +9,14 @@ use lib.Dec.{leb, ltb}
 use lib.ListN.{length, getD, set, length-set}
 use Rattle.std.proofs.shelf.Lists.{getD-set-same, getD-set-other}
 use Rattle.std.proofs.shelf.Tests.{cases-eq, cases-lt, ltb-false, ltb-true, leb-false, leb-true, lt-ltb, le-ltb, le-leb}
-use Rattle.chains.specs.declared.row.EntryRow.{EntryRow}
+use Rattle.chain_rows.specs.declared.row.EntryRow.{EntryRow}
 use Rattle.fields.specs.declared.kinds.Value.{Value}
-use Rattle.chains.specs.Chains.{blank, entryOf, chain, node, Within}
-use Rattle.chains.specs.Skips.{Skipped}
-use Rattle.chains.proofs.Nodes.{node-add}
+use Rattle.chain_rows.specs.Chains.{blank, entryOf, chain, node, Within}
+use Rattle.chain_rows.specs.Skips.{Skipped}
+use Rattle.chain_rows.proofs.Nodes.{node-add}
 use Rattle.entries.specs.Entries.{Entry, AllFrom, Sorted, entriesBefore, entriesBehind}
-use Rattle.chains.specs.declared.row.Chain.{Chain}
-use Rattle.chains.specs.Sound.{Sound, chainAt, noChain}
+use Rattle.chain_rows.specs.declared.row.Chain.{Chain}
+use Rattle.chain_rows.specs.Sound.{Sound, chainAt, noChain}
 
 before-none : (pos : ℕ → ℕ) (x p : ℕ) (es : List (Entry Value)) → x ≤ p → AllFrom pos p es → [] ≡ entriesBefore pos x es
 before-none pos x p [] l h = refl

@@ -4,16 +4,13 @@ use mathlib.Core.List.{List}
 use Prim.Native.Nat.{ℕ, _+_, _-_, _<_}
 use native.Mathlib.Omega.{arith}
 use lib.ListN.{length, getD}
-use Rattle.std.specs.Of.Vec.{vec-items}
-use Rattle.chains.specs.declared.row.EntryRow.{EntryRow}
+use Rattle.chain_rows.specs.declared.row.EntryRow.{EntryRow}
 use Rattle.fields.specs.declared.kinds.Value.{Value}
-use Rattle.chains.specs.Chains.{blank, chain, node, Shape, Off, Within}
-use Rattle.chains.proofs.Nodes.{node-shape, chain-frame, chained-within}
+use Rattle.chain_rows.specs.Chains.{blank, chain, node, Shape, Off}
+use Rattle.chain_rows.proofs.Nodes.{node-shape, chain-frame}
 use Rattle.entries.specs.Entries.{Entry}
-use Rattle.chains.specs.declared.row.Chain.{Chain}
-use Rattle.chains.specs.declared.table.ChainTable.{ChainTable}
-use Rattle.chains.specs.Sound.{Sound, chainAt}
-use Rattle.chains.proofs.Opened.{opened, used-long}
+use Rattle.chain_rows.specs.declared.row.Chain.{Chain}
+use Rattle.chain_rows.specs.Sound.{Sound, chainAt}
 
 pub map-sound : (cs : List Chain) (rows rows′ : List EntryRow) (made used k : ℕ) → Shape rows rows′ → Sound cs rows made used k → Sound cs rows′ made used k
 map-sound cs rows rows′ made used k P S =
@@ -32,13 +29,6 @@ pub map-other : (cs : List Chain) (rows rows′ : List EntryRow) (made used k i 
     → (j : ℕ) → j < made → (j ≡ i → ⊥) → chain rows′ (chainAt cs j .head) (chainAt cs j .len) ≡ chain rows (chainAt cs j .head) (chainAt cs j .len)
 map-other cs rows rows′ made used k i S li fr j lj n =
     chain-frame rows rows′ (chainAt cs j .head) (chainAt cs j .len) (λ a la. fr (node rows (chainAt cs j .head) a) (λ b lb e. n (sym (S .1 i j b a li lj lb la e))))
-
--- a chain may be walked
-pub walkable : (t : ChainTable) (i : ℕ) (row : Chain) (k : ℕ) → i < t .made → row ≡ chainAt (vec-items (t .chains)) i → t .versions ≡ k → Within k (vec-items (t .rows)) (row .head) (row .len)
-walkable t i row k l e v =
-    subst (λ (z : ℕ). Within z (vec-items (t .rows)) (row .head) (row .len)) v
-    (subst (λ (r : Chain). Within (t .versions) (vec-items (t .rows)) (r .head) (r .len)) (sym e)
-    (chained-within (t .versions) (t .used) (vec-items (t .rows)) _ _ (opened t .0 i l) (used-long t)))
 
 -- the chain i after a renaming
 pub map-here : (F : List (Entry Value) → List (Entry Value)) (cs : List Chain) (rows rows′ : List EntryRow) (i used : ℕ) (row : Chain)

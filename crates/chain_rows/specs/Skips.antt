@@ -8,8 +8,8 @@ use mathlib.Core.Bool.{Bool, true, false, cond}
 use Prim.Native.Nat.{ℕ, _-_, _<_, _≤_}
 use lib.Dec.{leb, ltb}
 use lib.ListN.{getD}
-use Rattle.chains.specs.declared.row.EntryRow.{EntryRow}
-use Rattle.chains.specs.Chains.{blank, node}
+use Rattle.chain_rows.specs.declared.row.EntryRow.{EntryRow}
+use Rattle.chain_rows.specs.Chains.{blank, node}
 
 -- the version v is passed on the way to x: one before x, and with too one at x as well
 abbrev pub passed : (ℕ → ℕ) → ℕ → Bool → ℕ → Bool

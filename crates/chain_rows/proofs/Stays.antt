@@ -6,14 +6,14 @@ use Prim.Native.Nat.{ℕ, suc, _+_, _-_, _<_, _≤_}
 use native.Mathlib.Omega.{arith}
 use lib.ListN.{length, getD, set, length-set}
 use Rattle.std.proofs.shelf.Lists.{getD-read}
-use Rattle.chains.specs.declared.row.EntryRow.{EntryRow}
+use Rattle.chain_rows.specs.declared.row.EntryRow.{EntryRow}
 use Rattle.fields.specs.declared.kinds.Value.{Value}
-use Rattle.chains.specs.declared.row.Spot.{Spot}
-use Rattle.chains.specs.Chains.{blank, node, Chained, Frame, Drawn, relinked}
-use Rattle.chains.specs.Spots.{Found}
-use Rattle.chains.proofs.Nodes.{below-of, inserted-drawn}
-use Rattle.chains.proofs.Puts.{found-at, found-prev}
-use Rattle.chains.proofs.Keeps.{same-chained, same-drawn, same-frame, first-inserted, first-frame, first-chained, behind-inserted, behind-frame, behind-chained}
+use Rattle.chain_rows.specs.declared.row.Spot.{Spot}
+use Rattle.chain_rows.specs.Chains.{blank, node, Chained, Frame, Drawn, relinked}
+use Rattle.chain_rows.specs.Spots.{Found}
+use Rattle.chain_rows.proofs.Nodes.{below-of, inserted-drawn}
+use Rattle.chain_rows.proofs.Puts.{found-at, found-prev}
+use Rattle.chain_rows.proofs.Keeps.{same-chained, same-drawn, same-frame, first-inserted, first-frame, first-chained, behind-inserted, behind-frame, behind-chained}
 
 -- the table after a put: the frame, the chain, where its rows come from
 pub record Stays (k u : ℕ) (rows rows′ : List EntryRow) (h n h′ n′ more : ℕ) : Type 0 where

@@ -7,11 +7,11 @@ use native.Mathlib.Nat.{not-suc-le-zero, le-of-suc-le-suc}
 use native.Mathlib.Omega.{arith}
 use lib.ListN.{length, getD, set}
 use Rattle.std.proofs.shelf.Lists.{getD-set-same, getD-set-other}
-use Rattle.chains.specs.declared.row.EntryRow.{EntryRow}
+use Rattle.chain_rows.specs.declared.row.EntryRow.{EntryRow}
 use Rattle.fields.specs.declared.kinds.Value.{Value}
 use Rattle.entries.specs.Entries.{Entry}
-use Rattle.chains.specs.Chains.{blank, entryOf, chain, node, Below, Avoids, Once, relinked}
-use Rattle.chains.proofs.Nodes.{avoids-front, avoids-rear, once-tail}
+use Rattle.chain_rows.specs.Chains.{blank, entryOf, chain, node, Below, Avoids, Once, relinked}
+use Rattle.chain_rows.proofs.Nodes.{avoids-front, avoids-rear, once-tail}
 
 -- a write elsewhere leaves the chain
 pub chain-set : (rows : List EntryRow) (j : ℕ) (r : EntryRow) (h n : ℕ) → Avoids j rows h n → chain (set rows j r) h n ≡ chain rows h n

@@ -9,11 +9,11 @@ use lib.Dec.{eqb, leb, ltb}
 use lib.ListN.{length, getD, set, length-set}
 use Rattle.std.proofs.shelf.Lists.{getD-set-same, getD-set-other, getD-read}
 use Rattle.std.proofs.shelf.Tests.{cases-bool, cases-eq}
-use Rattle.chains.specs.declared.row.EntryRow.{EntryRow}
+use Rattle.chain_rows.specs.declared.row.EntryRow.{EntryRow}
 use Rattle.fields.specs.declared.kinds.Value.{Value}
 use Rattle.entries.specs.Entries.{Entry, entry, both, mapped}
-use Rattle.chains.specs.Chains.{blank, entryOf, chain, node, Chained, Off, Shape}
-use Rattle.chains.proofs.Nodes.{node-next}
+use Rattle.chain_rows.specs.Chains.{blank, entryOf, chain, node, Chained, Off, Shape}
+use Rattle.chain_rows.proofs.Nodes.{node-next}
 
 abbrev pub turnedEntry : (ℕ → ℕ) → (Value → Value) → ℕ → ℕ → Entry Value → Entry Value
 turnedEntry pos r f x e = cond (both (eqb (e .field) f) (leb x (pos (e .version)))) (entry (e .version) (e .field) (r (e .value))) e

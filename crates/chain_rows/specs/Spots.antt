@@ -7,11 +7,11 @@ use mathlib.Core.List.{List, _∷_, _++_}
 use mathlib.Core.Bool.{true, cond}
 use Prim.Native.Nat.{ℕ, suc, _+_, _-_, _<_}
 use lib.ListN.{getD}
-use Rattle.chains.specs.declared.row.EntryRow.{EntryRow}
+use Rattle.chain_rows.specs.declared.row.EntryRow.{EntryRow}
 use Rattle.fields.specs.declared.kinds.Value.{Value}
-use Rattle.chains.specs.declared.row.Spot.{Spot}
+use Rattle.chain_rows.specs.declared.row.Spot.{Spot}
 use Rattle.entries.specs.Entries.{entry, put}
-use Rattle.chains.specs.Chains.{blank, chain, node, Within}
+use Rattle.chain_rows.specs.Chains.{blank, chain, node, Within}
 
 -- the first steps rows have been passed, at is the row behind them, prev the last of them
 pub record Passed (pos : ℕ → ℕ) (k : ℕ) (rows : List EntryRow) (head len f v steps prev at left : ℕ) : Type 0 where

@@ -4,13 +4,17 @@
 --   Apart       no two chains share a row
 --   Short       no chain is longer than the rows taken
 --   Sound       all of it
+--   tablesFit   a table can be made of so many chains and rows
 use mathlib.Core.Path.{_≡_}
 use mathlib.Core.List.{List}
+use mathlib.Core.Bool.{Bool}
 use Prim.Native.Nat.{ℕ, _<_, _≤_}
+use lib.Dec.{ltb}
 use lib.ListN.{getD}
-use Rattle.chains.specs.declared.row.EntryRow.{EntryRow}
-use Rattle.chains.specs.declared.row.Chain.{Chain}
-use Rattle.chains.specs.Chains.{node, Chained}
+use Rattle.entries.specs.Entries.{both}
+use Rattle.chain_rows.specs.declared.row.EntryRow.{EntryRow}
+use Rattle.chain_rows.specs.declared.row.Chain.{Chain}
+use Rattle.chain_rows.specs.Chains.{node, Chained}
 
 abbrev pub noChain : Chain
 noChain = record { head = 0; len = 0 }
@@ -31,3 +35,7 @@ Sound cs rows made used k =
     ((i : ℕ) → i < made → Chained k used rows (chainAt cs i .head) (chainAt cs i .len))
     × Apart cs rows made
     × Short cs made used
+
+-- there is a chain, and there are no more chains and rows than any limits ask for
+abbrev pub tablesFit : ℕ → ℕ → Bool
+tablesFit chains rows = both (ltb 0 chains) (both (ltb chains 20482) (ltb rows 163841))

@@ -8,9 +8,9 @@ use native.Mathlib.Nat.{add-zero}
 use lib.ListN.{length, getD, set, length-set}
 use Rattle.std.proofs.shelf.Lists.{getD-set-same, getD-set-other}
 use Rattle.std.proofs.shelf.Tests.{cases-eq}
-use Rattle.chains.specs.declared.row.EntryRow.{EntryRow}
-use Rattle.chains.specs.Chains.{blank, node, Chained, Frame, Drawn, relinked}
-use Rattle.chains.proofs.Nodes.{node-next, node-add, node-frame, Inserted, inserted-chained}
+use Rattle.chain_rows.specs.declared.row.EntryRow.{EntryRow}
+use Rattle.chain_rows.specs.Chains.{blank, node, Chained, Frame, Drawn, relinked}
+use Rattle.chain_rows.proofs.Nodes.{node-next, node-add, node-frame, Inserted, inserted-chained}
 
 next-set : (rows : List EntryRow) (at : ℕ) (new : EntryRow) (j : ℕ) → at < length rows → new .next ≡ getD rows at blank .next → getD (set rows at new) j blank .next ≡ getD rows j blank .next
 next-set rows at new j l e =

@@ -8,15 +8,15 @@ use native.Mathlib.Omega.{arith}
 use native.Mathlib.Nat.{add-zero}
 use lib.ListN.{length, getD, set, length-set, length-append}
 use Rattle.std.proofs.shelf.Lists.{getD-set-same, getD-set-other, getD-read}
-use Rattle.chains.specs.declared.row.EntryRow.{EntryRow}
+use Rattle.chain_rows.specs.declared.row.EntryRow.{EntryRow}
 use Rattle.fields.specs.declared.kinds.Value.{Value}
-use Rattle.chains.specs.declared.row.Spot.{Spot}
+use Rattle.chain_rows.specs.declared.row.Spot.{Spot}
 use Rattle.entries.specs.Entries.{Entry, entry, put}
-use Rattle.chains.specs.Chains.{blank, entryOf, chain, node, Below, Avoids, Once, Chained, Drawn, relinked}
-use Rattle.chains.specs.Spots.{Found}
-use Rattle.chains.proofs.Walks.{within-at}
-use Rattle.chains.proofs.Splices.{chain-set, avoids-below, replace, splice, below-node}
-use Rattle.chains.proofs.Nodes.{node-next}
+use Rattle.chain_rows.specs.Chains.{blank, entryOf, chain, node, Below, Avoids, Once, Chained, Drawn, relinked}
+use Rattle.chain_rows.specs.Spots.{Found}
+use Rattle.chain_rows.proofs.Walks.{within-at}
+use Rattle.chain_rows.proofs.Splices.{chain-set, avoids-below, replace, splice, below-node}
+use Rattle.chain_rows.proofs.Nodes.{node-next}
 
 pub node-set : (rows : List EntryRow) (j : ℕ) (r : EntryRow) (h k n : ℕ) → k ≤ n → Avoids j rows h n → node (set rows j r) h k ≡ node rows h k
 node-set rows j r h zero n l a = refl

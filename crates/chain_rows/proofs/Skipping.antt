@@ -8,11 +8,11 @@ use native.Mathlib.Omega.{arith}
 use lib.ListN.{getD}
 use Rattle.std.proofs.shelf.Lists.{getD-read}
 use Rattle.std.proofs.shelf.Tests.{cases-eq}
-use Rattle.chains.specs.declared.row.EntryRow.{EntryRow}
-use Rattle.chains.specs.Chains.{blank, node, Within}
-use Rattle.chains.specs.Skips.{passed, Skipped}
-use Rattle.chains.proofs.Nodes.{node-next}
-use Rattle.chains.proofs.Walks.{within-at, within-step}
+use Rattle.chain_rows.specs.declared.row.EntryRow.{EntryRow}
+use Rattle.chain_rows.specs.Chains.{blank, node, Within}
+use Rattle.chain_rows.specs.Skips.{passed, Skipped}
+use Rattle.chain_rows.proofs.Nodes.{node-next}
+use Rattle.chain_rows.proofs.Walks.{within-at, within-step}
 
 abbrev pub Goes : (ℕ → ℕ) → ℕ → List EntryRow → ℕ → ℕ → ℕ → Bool → ℕ → ℕ → Type 0
 Goes pos k rows head len x too at left =

@@ -5,12 +5,12 @@ use mathlib.Core.Bool.{Bool, true, false}
 use Prim.Native.Nat.{ℕ, suc, _-_, _<_, _≤_}
 use native.Mathlib.Omega.{arith}
 use lib.ListN.{getD}
-use Rattle.chains.specs.declared.row.EntryRow.{EntryRow}
+use Rattle.chain_rows.specs.declared.row.EntryRow.{EntryRow}
 use Rattle.fields.specs.declared.kinds.Value.{Value}
 use Rattle.entries.specs.Entries.{Entry, sets, has}
 use Rattle.entries.specs.Counts.{versionAt}
-use Rattle.chains.specs.Chains.{entryOf, chain, Within}
-use Rattle.chains.proofs.Walks.{chain-step}
+use Rattle.chain_rows.specs.Chains.{entryOf, chain, Within}
+use Rattle.chain_rows.proofs.Walks.{chain-step}
 
 pub has-here : (pos : ℕ → ℕ) (k : ℕ) (rows : List EntryRow) (at′ left f v : ℕ) (row : EntryRow) (all : Bool) → Within k rows at′ left → 0 < left → row ≡ getD rows at′ row
     → row .version ≡ v → row .field ≡ f → has pos f (pos v) (chain rows at′ left) ≡ all → true ≡ all

@@ -7,14 +7,14 @@ use native.Mathlib.Omega.{arith}
 use lib.ListN.{length, getD, set}
 use Rattle.std.proofs.shelf.Lists.{getD-set-same, getD-set-other}
 use Rattle.std.proofs.shelf.Tests.{cases-eq}
-use Rattle.chains.specs.declared.row.EntryRow.{EntryRow}
+use Rattle.chain_rows.specs.declared.row.EntryRow.{EntryRow}
 use Rattle.fields.specs.declared.kinds.Value.{Value}
-use Rattle.chains.specs.Chains.{blank, chain, node, Chained, Frame, Drawn}
-use Rattle.chains.proofs.Nodes.{node-frame, chain-frame}
-use Rattle.chains.proofs.Puts.{chain-length}
+use Rattle.chain_rows.specs.Chains.{blank, chain, node, Chained, Frame, Drawn}
+use Rattle.chain_rows.proofs.Nodes.{node-frame, chain-frame}
+use Rattle.chain_rows.proofs.Puts.{chain-length}
 use Rattle.entries.specs.Entries.{Entry}
-use Rattle.chains.specs.declared.row.Chain.{Chain}
-use Rattle.chains.specs.Sound.{Sound, chainAt, noChain}
+use Rattle.chain_rows.specs.declared.row.Chain.{Chain}
+use Rattle.chain_rows.specs.Sound.{Sound, chainAt, noChain}
 
 -- rows of another chain stay
 pub record Clear (u : ℕ) (rows rows′ : List EntryRow) (h n : ℕ) : Type 0 where

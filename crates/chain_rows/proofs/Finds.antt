@@ -8,12 +8,12 @@ use native.Mathlib.Numerals.{add-one}
 use lib.Dec.{ltb}
 use lib.ListN.{getD}
 use Rattle.std.proofs.shelf.Lists.{getD-read}
-use Rattle.chains.specs.declared.row.EntryRow.{EntryRow}
+use Rattle.chain_rows.specs.declared.row.EntryRow.{EntryRow}
 use Rattle.fields.specs.declared.kinds.Value.{Value}
 use Rattle.entries.specs.Entries.{Entry, entry, put, sets}
-use Rattle.chains.specs.Chains.{blank, entryOf, chain, node}
-use Rattle.chains.specs.Spots.{Passed, Found}
-use Rattle.chains.proofs.Walks.{within-at, within-step, chain-step}
+use Rattle.chain_rows.specs.Chains.{blank, entryOf, chain, node}
+use Rattle.chain_rows.specs.Spots.{Passed, Found}
+use Rattle.chain_rows.proofs.Walks.{within-at, within-step, chain-step}
 
 put-here : (pos : ℕ → ℕ) (f v : ℕ) (w : Value) (e : Entry Value) (es : List (Entry Value)) → true ≡ ltb (pos v) (pos (e .version))
     → put pos f v w (e ∷ es) ≡ entry v f w ∷ (e ∷ es)

@@ -6,10 +6,10 @@ use Prim.Native.Nat.{ℕ, zero, suc, _+_, _-_, _<_, _≤_}
 use Rattle.std.proofs.shelf.Tests.{cases-order}
 use native.Mathlib.Omega.{arith}
 use lib.ListN.{length, getD}
-use Rattle.chains.specs.declared.row.EntryRow.{EntryRow}
+use Rattle.chain_rows.specs.declared.row.EntryRow.{EntryRow}
 use Rattle.fields.specs.declared.kinds.Value.{Value}
 use Rattle.entries.specs.Entries.{Entry}
-use Rattle.chains.specs.Chains.{blank, entryOf, chain, Within, node, Below, Avoids, Once, Chained, Off, Shape, Drawn}
+use Rattle.chain_rows.specs.Chains.{blank, entryOf, chain, Within, node, Below, Avoids, Once, Chained, Off, Shape, Drawn}
 
 pub node-next : (rows : List EntryRow) (h k : ℕ) → node rows h (suc k) ≡ getD rows (node rows h k) blank .next
 node-next rows h zero = refl
