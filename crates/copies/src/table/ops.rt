@@ -1,0 +1,64 @@
+// The calls of the table of copies. Each is safe for every order; its equation holds where the rows are placed and the chains answer.
+ghost use mathlib.Core.Path.{_≡_};
+ghost use mathlib.Core.Bool.{true};
+ghost use Prim.Native.Nat.{_<_, _≤_};
+ghost use lib.Dec.{ltb};
+ghost use lib.ListN.{length};
+ghost use Rattle.std.specs.Of.Vec.{vec-len};
+ghost use Rattle.order.specs.Items.{position};
+ghost use Rattle.slices.specs.Copies.{valueAt};
+ghost use Rattle.slices.specs.Threads.{owns};
+ghost use Rattle.chains.specs.Views.{asked};
+ghost use Rattle.copies.specs.Views.{Placed, copiesOf, copyOf, nextOf, rowAt};
+use crate::table::CopyTable;
+use copy_rows::row::CopyRow;
+use fields::kinds::Value;
+use order::VersionOrder;
+
+// Whether a stands earlier than b; false where one of them is not known.
+fn earlier<O: VersionOrder>(order: &O, a: u32, b: u32) -> bool
+    ensures { λ r. ⌜ (a < length (O·VersionOrder .items (now (order .entry))) → b < length (O·VersionOrder .items (now (order .entry))) → r ≡ ltb (position (O·VersionOrder .items (now (order .entry))) a) (position (O·VersionOrder .items (now (order .entry))) b)) ⌝ }
+{
+    match order.before(a, b) {
+        Ok(before) => before,
+        Err(_) => false,
+    }
+}
+
+impl CopyTable {
+    // The row of the copy i.
+    fn row(&self, i: u32) -> CopyRow
+        ensures { λ r. ⌜ (i ≤ vec-len (now (self .entry) .copies) → r ≡ rowAt (now (self .entry)) i) ⌝ }
+    {
+        if i == 0 {
+            return self.root;
+        }
+        let k = (i - 1) as usize;
+        if k >= self.copies.len() {
+            return self.root;
+        }
+        self.copies[k]
+    }
+
+    // What a field of the copy i holds at the version v.
+    pub fn value_at<O: VersionOrder>(&self, order: &O, i: u32, field: u8, v: u32) -> Value
+        ensures { λ r. ⌜ (Placed (now (self .entry)) → asked (now (self .entry) .chains) (length (O·VersionOrder .items (now (order .entry)))) i v ≡ true → r ≡ valueAt (position (O·VersionOrder .items (now (order .entry)))) (position (O·VersionOrder .items (now (order .entry))) v) (copyOf (now (self .entry)) i) field) ⌝ }
+    {
+        let row = self.row(i);
+        self.chains.read(order, i, row.first(field), field, v)
+    }
+
+    // Whether the version v stands before the first version of the next copy of the node of the copy i.
+    pub fn owns<O: VersionOrder>(&self, order: &O, i: u32, v: u32) -> bool
+        ensures { λ r. ⌜ (Placed (now (self .entry)) → asked (now (self .entry) .chains) (length (O·VersionOrder .items (now (order .entry)))) i v ≡ true → r ≡ owns (position (O·VersionOrder .items (now (order .entry)))) (copiesOf (now (self .entry))) (position (O·VersionOrder .items (now (order .entry))) v) (nextOf (now (self .entry)) i)) ⌝ }
+    {
+        let row = self.row(i);
+        match row.next {
+            None => true,
+            Some(n) => {
+                let next = self.row(n);
+                earlier(order, v, next.lo)
+            }
+        }
+    }
+}
