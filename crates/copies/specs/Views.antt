@@ -3,18 +3,25 @@
 --   rowAt, nextOf         the row of a copy; the copy of its node that begins next
 --   copyOf, copiesOf      a copy; all copies
 --   Placed                each copy has a row, begins at a known version, and its next copy is there
+--   SameRows, RowSet      the rows are as they were; one row is another
+--   held, Holds           the entries of a copy after the version behind a change keeps the old value
+--   Changes               a field of a copy is changed at a version
 use mathlib.Core.Path.{_≡_}
-use mathlib.Core.List.{_∷_}
-use Prim.Native.Nat.{ℕ, suc, _≤_, _<_}
-use lib.ListN.{getD}
+use mathlib.Core.List.{List, _∷_}
+use mathlib.Core.Bool.{Bool, true, cond}
+use Prim.Native.Nat.{ℕ, suc, _+_, _≤_, _<_}
+use lib.ListN.{getD, length}
 use Rattle.std.specs.Of.Vec.{vec-items, vec-len}
 use Rattle.std.specs.declared.option.Option.{Option}
 use Rattle.std.specs.declared.option.Option.the-variants.{Some, None}
+use Rattle.fields.specs.declared.kinds.Value.{Value}
 use Rattle.fields.specs.declared.kinds.Value.the-variants.{Nil}
-use Rattle.slices.specs.Copies.{Copy, Copies}
-use Rattle.chains.specs.Views.{entriesOf}
+use Rattle.entries.specs.Entries.{Entry, keep}
+use Rattle.slices.specs.Copies.{Copy, Copies, valueAt}
+use Rattle.slices.specs.Changes.{changed}
+use Rattle.chains.specs.Views.{asked, entriesOf}
 use Rattle.copy_rows.specs.declared.row.CopyRow.{CopyRow}
-use Rattle.copy_rows.specs.Rows.{firstOf}
+use Rattle.copy_rows.specs.Rows.{firstOf, stored}
 use Rattle.copies.specs.declared.table.CopyTable.{CopyTable}
 
 abbrev pub blankRow : CopyRow
@@ -37,3 +44,32 @@ pub record Placed (t : CopyTable) : Type 0 where
   pub rows : t .chains .made ≤ suc (vec-len (t .copies))
   pub known : (i : ℕ) → i < t .chains .made → rowAt t i .lo < t .chains .versions
   pub next : (i n : ℕ) → i < t .chains .made → nextOf t i ≡ Some n → n < t .chains .made
+
+-- the rows and the number of nodes are as they were
+pub record SameRows (t t′ : CopyTable) : Type 0 where
+  pub rows : (j : ℕ) → rowAt t′ j ≡ rowAt t j
+  pub long : vec-len (t′ .copies) ≡ vec-len (t .copies)
+  pub nodes : t′ .nodes ≡ t .nodes
+
+-- the copy i has the given row, if there is a place for it, and all else is as it was
+pub record RowSet (i : ℕ) (row : CopyRow) (t t′ : CopyTable) : Type 0 where
+  pub here : i ≤ vec-len (t .copies) → rowAt t′ i ≡ row
+  pub others : (j : ℕ) → (j ≡ i → ⊥) → rowAt t′ j ≡ rowAt t j
+  pub long : vec-len (t′ .copies) ≡ vec-len (t .copies)
+  pub nodes : t′ .nodes ≡ t .nodes
+  pub chains : t′ .chains ≡ t .chains
+
+-- the entries of a copy, where the version s behind u has an entry of the field f if more says that the copy serves it: that which it had,
+-- or one with the value at u
+abbrev pub held : (ℕ → ℕ) → ℕ → ℕ → Bool → ℕ → Copy → List (Entry Value)
+held pos u s more f k = cond more (keep pos f s (valueAt pos (pos u) k f) (k .entries)) (k .entries)
+
+-- the copy i has these entries, where the chains answer and two rows are free, and all else is as it was
+pub record Holds (pos : ℕ → ℕ) (n u s : ℕ) (more : Bool) (i f : ℕ) (t t′ : CopyTable) : Type 0 where
+  pub same : SameRows t t′
+  pub made : t′ .chains .made ≡ t .chains .made
+  pub versions : t′ .chains .versions ≡ t .chains .versions
+  pub room : vec-len (t′ .chains .rows) ≡ vec-len (t .chains .rows)
+  pub others : (j : ℕ) → j < t .chains .made → (j ≡ i → ⊥) → entriesOf (t′ .chains) j ≡ entriesOf (t .chains) j
+  pub here : Placed t → asked (t .chains) n i u ≡ true → (more ≡ true → asked (t .chains) n i s ≡ true) → t .chains .used + 2 ≤ vec-len (t .chains .rows)
+      → (entriesOf (t′ .chains) i ≡ held pos u s more f (copyOf t i)) × (t′ .chains .used + length (entriesOf (t .chains) i) ≡ t .chains .used + length (entriesOf (t′ .chains) i))

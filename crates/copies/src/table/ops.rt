@@ -9,7 +9,7 @@ ghost use Rattle.order.specs.Items.{position};
 ghost use Rattle.slices.specs.Copies.{valueAt};
 ghost use Rattle.slices.specs.Threads.{owns};
 ghost use Rattle.chains.specs.Views.{asked};
-ghost use Rattle.copies.specs.Views.{Placed, copiesOf, copyOf, nextOf, rowAt};
+ghost use Rattle.copies.specs.Views.{Holds, Placed, RowSet, copiesOf, copyOf, nextOf, rowAt};
 use crate::table::CopyTable;
 use copy_rows::row::CopyRow;
 use fields::kinds::Value;
@@ -60,5 +60,30 @@ impl CopyTable {
                 earlier(order, v, next.lo)
             }
         }
+    }
+
+    // Gives the copy i another row.
+    fn set_row(&mut self, i: u32, row: CopyRow)
+        ensures { λ _. ⌜ RowSet i row (now (self .entry)) (now (self .exit)) ⌝ }
+    {
+        if i == 0 {
+            self.root = row;
+            return;
+        }
+        let k = (i - 1) as usize;
+        if k < self.copies.len() {
+            self.copies[k] = row;
+        }
+    }
+
+    // Before a change of a field of the copy i at the version u: the version s behind u, if the copy serves it too, keeps the value.
+    fn hold<O: VersionOrder>(&mut self, order: &O, i: u32, field: u8, u: u32, s: u32, more: bool)
+        ensures { λ _. ⌜ Holds (position (O·VersionOrder .items (now (order .entry)))) (length (O·VersionOrder .items (now (order .entry)))) u s more i field (now (self .entry)) (now (self .exit)) ⌝ }
+    {
+        if !more {
+            return;
+        }
+        let old = self.value_at(order, i, field, u);
+        self.chains.keep(order, i, field, s, old);
     }
 }
