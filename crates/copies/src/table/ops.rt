@@ -9,7 +9,7 @@ ghost use Rattle.order.specs.Items.{position};
 ghost use Rattle.slices.specs.Copies.{valueAt};
 ghost use Rattle.slices.specs.Threads.{owns};
 ghost use Rattle.chains.specs.Views.{asked};
-ghost use Rattle.copies.specs.Views.{Holds, Placed, RowSet, copiesOf, copyOf, nextOf, rowAt};
+ghost use Rattle.copies.specs.Views.{Changes, Holds, Placed, RowSet, copiesOf, copyOf, nextOf, rowAt};
 use crate::table::CopyTable;
 use copy_rows::row::CopyRow;
 use fields::kinds::Value;
@@ -85,5 +85,28 @@ impl CopyTable {
         }
         let old = self.value_at(order, i, field, u);
         self.chains.keep(order, i, field, s, old);
+    }
+
+    // Changes a field of the copy i at the version u: an entry there, or the first value where the copy begins at u. s is the version
+    // behind u, which keeps the value where more says that the copy serves it.
+    pub fn set_field<O: VersionOrder>(
+        &mut self,
+        order: &O,
+        i: u32,
+        field: u8,
+        u: u32,
+        s: u32,
+        more: bool,
+        w: Value,
+    )
+        ensures { λ _. ⌜ Changes (position (O·VersionOrder .items (now (order .entry)))) (length (O·VersionOrder .items (now (order .entry)))) u s more i field w (now (self .entry)) (now (self .exit)) ⌝ }
+    {
+        self.hold(order, i, field, u, s, more);
+        let row = self.row(i);
+        if row.lo == u {
+            self.set_row(i, row.with_first(field, w));
+            return;
+        }
+        self.chains.put(order, i, field, u, w);
     }
 }
