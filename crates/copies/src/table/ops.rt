@@ -1,13 +1,15 @@
 // The calls of the table of copies. Each is safe for every order; its equation holds where the rows are placed and the chains answer.
 ghost use mathlib.Core.Path.{_≡_};
 ghost use mathlib.Core.Bool.{true};
-ghost use Prim.Native.Nat.{_<_, _≤_};
+ghost use Prim.Native.Nat.{ℕ, _<_, _≤_};
 ghost use lib.Dec.{ltb};
 ghost use lib.ListN.{length};
 ghost use Rattle.std.specs.Of.Vec.{vec-len};
 ghost use Rattle.order.specs.Items.{position};
+ghost use Rattle.fields.specs.declared.kinds.Value.the-variants.{To};
 ghost use Rattle.slices.specs.Copies.{valueAt};
 ghost use Rattle.slices.specs.Threads.{owns};
+ghost use Rattle.states.specs.Relinks.{crowded, slice, taken};
 ghost use Rattle.chains.specs.Views.{asked};
 ghost use Rattle.copies.specs.Views.{Changes, Holds, Placed, RowSet, copiesOf, copyOf, nextOf, rowAt};
 use crate::table::CopyTable;
@@ -22,6 +24,18 @@ fn earlier<O: VersionOrder>(order: &O, a: u32, b: u32) -> bool
     match order.before(a, b) {
         Ok(before) => before,
         Err(_) => false,
+    }
+}
+
+// Whether a back link is taken by another link than l of the copy i.
+fn taken(i: u32, l: u32, back: Value) -> bool
+    ensures { λ r. ⌜ r ≡ taken i l back ⌝ }
+{
+    match back {
+        Value::From(k, m) => k != i || m != l,
+        Value::To(_) => true,
+        Value::Number(_) => true,
+        Value::Nil => false,
     }
 }
 
@@ -108,5 +122,21 @@ impl CopyTable {
             return;
         }
         self.chains.put(order, i, field, u, w);
+    }
+
+    // Whether the link l of the copy i, set to v at the version u, would be a third one to its target.
+    pub fn crowded<O: VersionOrder>(&self, order: &O, i: u32, l: u32, u: u32, v: Value) -> bool
+        ensures { λ r. ⌜ (Placed (now (self .entry)) → ((k : ℕ) → v ≡ To k → asked (now (self .entry) .chains) (length (O·VersionOrder .items (now (order .entry)))) k u ≡ true) → r ≡ crowded (slice (position (O·VersionOrder .items (now (order .entry)))) u (copiesOf (now (self .entry)))) i l v) ⌝ }
+    {
+        match v {
+            Value::To(k) => {
+                let first = taken(i, l, self.value_at(order, k, 3, u));
+                let second = taken(i, l, self.value_at(order, k, 4, u));
+                first && second
+            }
+            Value::From(_, _) => false,
+            Value::Number(_) => false,
+            Value::Nil => false,
+        }
     }
 }
