@@ -158,7 +158,7 @@ pub(crate) fn put_entry<O: VersionOrder>(
 }
 
 // A value that names the copy c, with d in its place.
-pub(crate) fn rename_value(v: Value, c: u32, d: u32) -> Value
+pub fn rename_value(v: Value, c: u32, d: u32) -> Value
     ensures { λ r. ⌜ r ≡ redirect c d v ⌝ }
 {
     match v {

@@ -25,12 +25,12 @@ holding pos n u s i f more t chains old m old-is A = record {
   versions = A .versions;
   room = A .rows;
   others = A .others;
-  here = λ P au behind free.
-      let es = entriesOf (t .chains) i in
+  here = λ q.
       let ad = keep-adds pos f s old (entriesOf (t .chains) i) .0 in
-      let h = A .here (behind m) (omega (arith, ad, free)) in (
+      let free = q .3 in
+      let h = A .here (q .2 m) (omega (arith, ad, free)) in (
         subst (λ (b : Bool). entriesOf chains i ≡ cond b (keep pos f s (valueAt pos (pos u) (copyOf t i) f) (entriesOf (t .chains) i)) (entriesOf (t .chains) i)) (sym m)
-            (h .0 ∙ ap (λ (v : Value). keep pos f s v (entriesOf (t .chains) i)) (old-is P au)),
+            (h .0 ∙ ap (λ (v : Value). keep pos f s v (entriesOf (t .chains) i)) (old-is (q .0) (q .1))),
         h .1 ∙ ap (λ (l : List (Entry Value)). t .chains .used + length l) (sym (h .0)),
       );
 }

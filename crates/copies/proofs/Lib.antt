@@ -1,3 +1,4 @@
 pub mod Owning
 pub mod Holding
 pub mod Setting
+pub mod Redirecting

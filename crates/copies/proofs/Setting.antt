@@ -43,7 +43,6 @@ pub first-changes : (pos : ℕ → ℕ) (n u s : ℕ) (more : Bool) (i f : ℕ) 
     → (i ≤ vec-len (a .copies) → row ≡ rowAt a i) → row .lo ≡ u → Renewed row f w row′ → RowSet i row′ a t′
     → Changes pos n u s more i f w t t′
 first-changes pos n u s more i f w t a t′ row row′ H row-is at N R =
-    let same = H .same in
     let near = λ (l : i ≤ vec-len (t .copies)). row-is (subst (λ (z : ℕ). i ≤ z) (sym (H .same .long)) l) ∙ H .same .rows i in
     let now-is = λ (l : i ≤ vec-len (t .copies)). R .here (subst (λ (z : ℕ). i ≤ z) (sym (H .same .long)) l) in
     record {
@@ -70,7 +69,7 @@ first-changes pos n u s more i f w t a t′ row row′ H row-is at N R =
       here = λ P st au behind free.
           let A = is-asked (t .chains) n i u (sym au) in
           let li = in-rows t i P (A .there) in
-          let E = H .here P au behind free in
+          let E = H .here (P, au, behind, free) in
           let e = near li in
           let b : eqb (pos u) (pos (rowAt t i .lo)) ≡ true = eq-eqb (pos u) (pos (rowAt t i .lo)) (ap pos (sym at ∙ ap (λ (r : CopyRow). r .lo) e)) in
           let serial = ap (λ (r : CopyRow). r .serial) (now-is li) ∙ (N .serial ∙ ap (λ (r : CopyRow). r .serial) e) in
@@ -97,7 +96,6 @@ pub put-changes : (xs : List ℕ) → ((b : ℕ) → member xs b ≡ known xs b)
     → Alters (asked (a .chains) (length xs) i u) (a .chains) chains i (put (position xs) f u w (entriesOf (a .chains) i))
     → Changes (position xs) (length xs) u s more i f w t (record { root = a .root; copies = a .copies; chains = chains; nodes = a .nodes })
 put-changes xs numbered u s more i f w t a chains row H row-is off L =
-    let pos = position xs in
     record {
       nodes = H .same .nodes;
       long = H .same .long;
@@ -111,7 +109,7 @@ put-changes xs numbered u s more i f w t a chains row H row-is off L =
       here = λ P st au behind free.
           let A = is-asked (t .chains) (length xs) i u (sym au) in
           let li = in-rows t i P (A .there) in
-          let E = H .here P au behind free in
+          let E = H .here (P, au, behind, free) in
           let e : row ≡ rowAt t i = row-is (subst (λ (z : ℕ). i ≤ z) (sym (H .same .long)) li) ∙ H .same .rows i in
           let lu : u < length xs = subst (λ (z : ℕ). u < z) (A .same) (A .version) in
           let ll : rowAt t i .lo < length xs = subst (λ (z : ℕ). rowAt t i .lo < z) (A .same) (P .known i (A .there)) in

@@ -4,7 +4,9 @@
 --   copyOf, copiesOf      a copy; all copies
 --   Placed                each copy has a row, begins at a known version, and its next copy is there
 --   SameRows, RowSet      the rows are as they were; one row is another
+--   Enters                a copy has other entries
 --   held, Holds           the entries of a copy after the version behind a change keeps the old value
+--   Redirects             a field of a copy names one copy in place of another from a version on
 --   Changes               a field of a copy is changed at a version
 use mathlib.Core.Path.{_≡_}
 use mathlib.Core.List.{List, _∷_}
@@ -16,9 +18,10 @@ use Rattle.std.specs.declared.option.Option.{Option}
 use Rattle.std.specs.declared.option.Option.the-variants.{Some, None}
 use Rattle.fields.specs.declared.kinds.Value.{Value}
 use Rattle.fields.specs.declared.kinds.Value.the-variants.{Nil}
-use Rattle.entries.specs.Entries.{Entry, keep}
+use Rattle.entries.specs.Entries.{Entry, keep, renamed}
 use Rattle.slices.specs.Copies.{Copy, Copies, valueAt}
 use Rattle.slices.specs.Changes.{changed}
+use Rattle.slices.specs.Partners.{namesOne, redirect}
 use Rattle.chains.specs.Views.{asked, entriesOf}
 use Rattle.copy_rows.specs.declared.row.CopyRow.{CopyRow}
 use Rattle.copy_rows.specs.Rows.{firstOf, stored}
@@ -64,15 +67,27 @@ pub record RowSet (i : ℕ) (row : CopyRow) (t t′ : CopyTable) : Type 0 where
 abbrev pub held : (ℕ → ℕ) → ℕ → ℕ → Bool → ℕ → Copy → List (Entry Value)
 held pos u s more f k = cond more (keep pos f s (valueAt pos (pos u) k f) (k .entries)) (k .entries)
 
--- the copy i has these entries, where the chains answer and two rows are free, and all else is as it was
-pub record Holds (pos : ℕ → ℕ) (n u s : ℕ) (more : Bool) (i f : ℕ) (t t′ : CopyTable) : Type 0 where
+-- where all is ready, the copy i has the entries new; all else is as it was
+pub record Enters (ready : Type 0) (i : ℕ) (new : List (Entry Value)) (t t′ : CopyTable) : Type 0 where
   pub same : SameRows t t′
   pub made : t′ .chains .made ≡ t .chains .made
   pub versions : t′ .chains .versions ≡ t .chains .versions
   pub room : vec-len (t′ .chains .rows) ≡ vec-len (t .chains .rows)
   pub others : (j : ℕ) → j < t .chains .made → (j ≡ i → ⊥) → entriesOf (t′ .chains) j ≡ entriesOf (t .chains) j
-  pub here : Placed t → asked (t .chains) n i u ≡ true → (more ≡ true → asked (t .chains) n i s ≡ true) → t .chains .used + 2 ≤ vec-len (t .chains .rows)
-      → (entriesOf (t′ .chains) i ≡ held pos u s more f (copyOf t i)) × (t′ .chains .used + length (entriesOf (t .chains) i) ≡ t .chains .used + length (entriesOf (t′ .chains) i))
+  pub here : ready → (entriesOf (t′ .chains) i ≡ new) × (t′ .chains .used + length (entriesOf (t .chains) i) ≡ t .chains .used + length (entriesOf (t′ .chains) i))
+
+-- the version behind a change keeps its value, where the chains answer and two rows are free
+abbrev pub Holds : (ℕ → ℕ) → ℕ → ℕ → ℕ → Bool → ℕ → ℕ → CopyTable → CopyTable → Type 0
+Holds pos n u s more i f t t′ =
+    Enters (Placed t × (asked (t .chains) n i u ≡ true) × (more ≡ true → asked (t .chains) n i s ≡ true) × (t .chains .used + 2 ≤ vec-len (t .chains .rows)))
+    i (held pos u s more f (copyOf t i)) t t′
+
+-- from the version x on the field f of the copy i names d where it named c, and gets an entry at x where its value across x names c; the
+-- chains answer, and a row is free
+abbrev pub Redirects : (ℕ → ℕ) → ℕ → ℕ → ℕ → ℕ → ℕ → ℕ → CopyTable → CopyTable → Type 0
+Redirects pos n c d x i f t t′ =
+    Enters (Placed t × (asked (t .chains) n i x ≡ true) × (t .chains .used + 1 ≤ vec-len (t .chains .rows)))
+    i (renamed pos (namesOne c) (redirect c d) f x (copyOf t i .first f) (entriesOf (t .chains) i)) t t′
 
 -- the field f of the copy i is changed at the version u by the rule of changes, where the rows are placed, the chains answer, the row has a
 -- place for the field and two entry rows are free; all other copies are as they were, and each copy begins where it did and has its next

@@ -8,11 +8,13 @@ ghost use Rattle.std.specs.Of.Vec.{vec-len};
 ghost use Rattle.order.specs.Items.{position};
 ghost use Rattle.fields.specs.declared.kinds.Value.the-variants.{To};
 ghost use Rattle.slices.specs.Copies.{valueAt};
+ghost use Rattle.slices.specs.Partners.{namesOne};
 ghost use Rattle.slices.specs.Threads.{owns};
 ghost use Rattle.states.specs.Relinks.{crowded, slice, taken};
 ghost use Rattle.chains.specs.Views.{asked};
-ghost use Rattle.copies.specs.Views.{Changes, Holds, Placed, RowSet, copiesOf, copyOf, nextOf, rowAt};
+ghost use Rattle.copies.specs.Views.{Changes, Holds, Placed, Redirects, RowSet, copiesOf, copyOf, nextOf, rowAt};
 use crate::table::CopyTable;
+use chains::walking::rename_value;
 use copy_rows::row::CopyRow;
 use fields::kinds::Value;
 use order::VersionOrder;
@@ -35,6 +37,18 @@ fn taken(i: u32, l: u32, back: Value) -> bool
         Value::From(k, m) => k != i || m != l,
         Value::To(_) => true,
         Value::Number(_) => true,
+        Value::Nil => false,
+    }
+}
+
+// Whether a value names the copy c.
+fn names(c: u32, v: Value) -> bool
+    ensures { λ r. ⌜ r ≡ namesOne c v ⌝ }
+{
+    match v {
+        Value::To(k) => k == c,
+        Value::From(k, _) => k == c,
+        Value::Number(_) => false,
         Value::Nil => false,
     }
 }
@@ -138,5 +152,27 @@ impl CopyTable {
             Value::Number(_) => false,
             Value::Nil => false,
         }
+    }
+
+    // Lets a field of the copy i name d where it names c, from the version x on.
+    pub fn redirect_field<O: VersionOrder>(
+        &mut self,
+        order: &O,
+        i: u32,
+        field: u8,
+        x: u32,
+        c: u32,
+        d: u32,
+    )
+        ensures { λ _. ⌜ Redirects (position (O·VersionOrder .items (now (order .entry)))) (length (O·VersionOrder .items (now (order .entry)))) c d x i field (now (self .entry)) (now (self .exit)) ⌝ }
+    {
+        let value = self.value_at(order, i, field, x);
+        self.chains.rename(order, i, field, x, c, d);
+        let named = names(c, value);
+        if !named {
+            return;
+        }
+        self.chains
+            .put(order, i, field, x, rename_value(value, c, d));
     }
 }
