@@ -6,10 +6,10 @@
 --   SameRows, RowSet      the rows are as they were; one row is another
 --   Enters                a copy has other entries
 --   held, Holds           the entries of a copy after the version behind a change keeps the old value
---   Redirects             a field of a copy names one copy in place of another from a version on
+--   RedirectsAll, Redirects    fields of a copy, or one, name one copy in place of another from a version on
 --   Changes               a field of a copy is changed at a version
 use mathlib.Core.Path.{_≡_}
-use mathlib.Core.List.{List, _∷_}
+use mathlib.Core.List.{List, [], _∷_}
 use mathlib.Core.Bool.{Bool, true, cond}
 use Prim.Native.Nat.{ℕ, suc, _+_, _≤_, _<_}
 use lib.ListN.{getD, length}
@@ -18,10 +18,10 @@ use Rattle.std.specs.declared.option.Option.{Option}
 use Rattle.std.specs.declared.option.Option.the-variants.{Some, None}
 use Rattle.fields.specs.declared.kinds.Value.{Value}
 use Rattle.fields.specs.declared.kinds.Value.the-variants.{Nil}
-use Rattle.entries.specs.Entries.{Entry, keep, renamed}
+use Rattle.entries.specs.Entries.{Entry, keep}
 use Rattle.slices.specs.Copies.{Copy, Copies, valueAt}
 use Rattle.slices.specs.Changes.{changed}
-use Rattle.slices.specs.Partners.{namesOne, redirect}
+use Rattle.slices.specs.Partners.{redirects}
 use Rattle.chains.specs.Views.{asked, entriesOf}
 use Rattle.copy_rows.specs.declared.row.CopyRow.{CopyRow}
 use Rattle.copy_rows.specs.Rows.{firstOf, stored}
@@ -82,12 +82,16 @@ Holds pos n u s more i f t t′ =
     Enters (Placed t × (asked (t .chains) n i u ≡ true) × (more ≡ true → asked (t .chains) n i s ≡ true) × (t .chains .used + 2 ≤ vec-len (t .chains .rows)))
     i (held pos u s more f (copyOf t i)) t t′
 
--- from the version x on the field f of the copy i names d where it named c, and gets an entry at x where its value across x names c; the
--- chains answer, and a row is free
+-- from the version x on the fields fs of the copy i name d where they named c, and get an entry at x where their values across x name c;
+-- the chains answer, and a row for each is free
+abbrev pub RedirectsAll : (ℕ → ℕ) → ℕ → ℕ → ℕ → ℕ → ℕ → List ℕ → CopyTable → CopyTable → Type 0
+RedirectsAll pos n c d x i fs t t′ =
+    Enters (Placed t × (asked (t .chains) n i x ≡ true) × (t .chains .used + length fs ≤ vec-len (t .chains .rows)))
+    i (redirects pos c d fs x (copyOf t i .first) (entriesOf (t .chains) i)) t t′
+
+-- the same for one field
 abbrev pub Redirects : (ℕ → ℕ) → ℕ → ℕ → ℕ → ℕ → ℕ → ℕ → CopyTable → CopyTable → Type 0
-Redirects pos n c d x i f t t′ =
-    Enters (Placed t × (asked (t .chains) n i x ≡ true) × (t .chains .used + 1 ≤ vec-len (t .chains .rows)))
-    i (renamed pos (namesOne c) (redirect c d) f x (copyOf t i .first f) (entriesOf (t .chains) i)) t t′
+Redirects pos n c d x i f t t′ = RedirectsAll pos n c d x i (f ∷ []) t t′
 
 -- the field f of the copy i is changed at the version u by the rule of changes, where the rows are placed, the chains answer, the row has a
 -- place for the field and two entry rows are free; all other copies are as they were, and each copy begins where it did and has its next

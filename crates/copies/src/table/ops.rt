@@ -9,10 +9,11 @@ ghost use Rattle.order.specs.Items.{position};
 ghost use Rattle.fields.specs.declared.kinds.Value.the-variants.{To};
 ghost use Rattle.slices.specs.Copies.{valueAt};
 ghost use Rattle.slices.specs.Partners.{namesOne};
+ghost use Rattle.slices.specs.Splits.{naming};
 ghost use Rattle.slices.specs.Threads.{owns};
 ghost use Rattle.states.specs.Relinks.{crowded, slice, taken};
 ghost use Rattle.chains.specs.Views.{asked};
-ghost use Rattle.copies.specs.Views.{Changes, Holds, Placed, Redirects, RowSet, copiesOf, copyOf, nextOf, rowAt};
+ghost use Rattle.copies.specs.Views.{Changes, Holds, Placed, Redirects, RedirectsAll, RowSet, copiesOf, copyOf, nextOf, rowAt};
 use crate::table::CopyTable;
 use chains::walking::rename_value;
 use copy_rows::row::CopyRow;
@@ -155,7 +156,7 @@ impl CopyTable {
     }
 
     // Lets a field of the copy i name d where it names c, from the version x on.
-    pub fn redirect_field<O: VersionOrder>(
+    fn redirect_field<O: VersionOrder>(
         &mut self,
         order: &O,
         i: u32,
@@ -174,5 +175,16 @@ impl CopyTable {
         }
         self.chains
             .put(order, i, field, x, rename_value(value, c, d));
+    }
+
+    // Lets the copy i, which began before the version x, name d where it names c, from x on.
+    pub fn redirect_from<O: VersionOrder>(&mut self, order: &O, i: u32, x: u32, c: u32, d: u32)
+        ensures { λ _. ⌜ RedirectsAll (position (O·VersionOrder .items (now (order .entry)))) (length (O·VersionOrder .items (now (order .entry)))) c d x i naming (now (self .entry)) (now (self .exit)) ⌝ }
+    {
+        self.redirect_field(order, i, 4, x, c, d);
+        self.redirect_field(order, i, 3, x, c, d);
+        self.redirect_field(order, i, 2, x, c, d);
+        self.redirect_field(order, i, 1, x, c, d);
+        self.redirect_field(order, i, 0, x, c, d);
     }
 }
