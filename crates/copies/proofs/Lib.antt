@@ -2,3 +2,4 @@ pub mod Owning
 pub mod Holding
 pub mod Setting
 pub mod Redirecting
+pub mod Bridging
