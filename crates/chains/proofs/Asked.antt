@@ -6,13 +6,12 @@ use lib.Dec.{eqb, ltb}
 use Rattle.std.specs.Of.Vec.{vec-items}
 use Rattle.entries.specs.Entries.{both}
 use Rattle.slices.proofs.Serving.{both-true, lt-is, eq-is}
-use Rattle.chains.specs.declared.row.Chain.{Chain}
+use Rattle.chain_rows.specs.declared.row.Chain.{Chain}
 use Rattle.chains.specs.declared.table.ChainTable.{ChainTable}
-use Rattle.chains.specs.Chains.{Within, Chained}
-use Rattle.chains.specs.Sound.{chainAt}
+use Rattle.chain_rows.specs.Chains.{Within, Chained}
+use Rattle.chain_rows.specs.Sound.{chainAt}
 use Rattle.chains.specs.Views.{asked}
-use Rattle.chains.proofs.Opened.{opened}
-use Rattle.chains.proofs.Mapping.{walkable}
+use Rattle.chains.proofs.Opened.{opened, walkable}
 
 pub record Asked (t : ChainTable) (n i v : ℕ) : Type 0 where
   pub there : i < t .made

@@ -1,17 +1,2 @@
-pub mod Nodes
-pub mod Walks
-pub mod Splices
-pub mod Finds
-pub mod Looking
-pub mod Skipping
-pub mod Puts
-pub mod Keeps
-pub mod Stays
-pub mod Renaming
-pub mod Orders
 pub mod Opened
-pub mod Keeping
-pub mod Mapping
 pub mod Asked
-pub mod Cutting
-pub mod Adding

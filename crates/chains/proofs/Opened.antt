@@ -1,5 +1,5 @@
 -- The invariant is a proposition, so the ghost field that holds it truncated gives it back.
-use mathlib.Core.Path.{_≡_}
+use mathlib.Core.Path.{_≡_, sym, subst}
 use mathlib.Core.List.{List}
 use mathlib.Core.Logic.{∥∥₁-elim}
 use native.Mathlib.Bridge.{le-prop}
@@ -10,9 +10,11 @@ use lib.ListN.{length, getD}
 use Rattle.std.specs.Of.Vec.{vec-items}
 use Rattle.std.proofs.shelf.Lists.{getD-read}
 use Rattle.chains.specs.declared.table.ChainTable.{ChainTable}
-use Rattle.chains.specs.declared.row.EntryRow.{EntryRow}
-use Rattle.chains.specs.declared.row.Chain.{Chain}
-use Rattle.chains.specs.Sound.{Sound, chainAt, noChain}
+use Rattle.chain_rows.specs.declared.row.EntryRow.{EntryRow}
+use Rattle.chain_rows.specs.declared.row.Chain.{Chain}
+use Rattle.chain_rows.specs.Chains.{Within}
+use Rattle.chain_rows.proofs.Nodes.{chained-within}
+use Rattle.chain_rows.specs.Sound.{Sound, chainAt, noChain}
 
 sound-prop : (cs : List Chain) (rows : List EntryRow) (made used k : ℕ) → IsProp (Sound cs rows made used k)
 sound-prop cs rows made used k p q = λ i. (
@@ -37,3 +39,10 @@ made-long t = let f = t .fits in let k = t .chains .ok .0 in omega (arith, f, k)
 
 pub used-long : (t : ChainTable) → t .used ≤ length (vec-items (t .rows))
 used-long t = let f = t .taken in let k = t .rows .ok .0 in omega (arith, f, k)
+
+-- a chain may be walked
+pub walkable : (t : ChainTable) (i : ℕ) (row : Chain) (k : ℕ) → i < t .made → row ≡ chainAt (vec-items (t .chains)) i → t .versions ≡ k → Within k (vec-items (t .rows)) (row .head) (row .len)
+walkable t i row k l e v =
+    subst (λ (z : ℕ). Within z (vec-items (t .rows)) (row .head) (row .len)) v
+    (subst (λ (r : Chain). Within (t .versions) (vec-items (t .rows)) (r .head) (r .len)) (sym e)
+    (chained-within (t .versions) (t .used) (vec-items (t .rows)) _ _ (opened t .0 i l) (used-long t)))

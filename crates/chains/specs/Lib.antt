@@ -1,5 +1,1 @@
-pub mod Chains
-pub mod Spots
-pub mod Skips
-pub mod Sound
 pub mod Views

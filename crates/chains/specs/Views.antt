@@ -3,7 +3,7 @@
 --   entriesOf     the entries of a chain
 --   asked         a call that the table answers: the chain is there, the version known, and the order has as many versions as the table
 --   Alters        one chain becomes a given list, and the others stay
---   tablesFit, Made    a table can be made of so many chains and rows; the table at its making
+--   Made          the table at its making
 --   Adds          a chain without entries comes in
 --   Opens         one version more
 --   Cuts          a chain is parted at a version, and what stands behind it is a new chain
@@ -17,8 +17,8 @@ use Rattle.std.specs.Of.Vec.{vec-items, vec-len}
 use Rattle.fields.specs.declared.kinds.Value.{Value}
 use Rattle.entries.specs.Entries.{Entry, Sorted, both, entriesBefore, entriesBehind}
 use Rattle.chains.specs.declared.table.ChainTable.{ChainTable}
-use Rattle.chains.specs.Chains.{chain}
-use Rattle.chains.specs.Sound.{chainAt}
+use Rattle.chain_rows.specs.Chains.{chain}
+use Rattle.chain_rows.specs.Sound.{chainAt, tablesFit}
 
 abbrev pub entriesOf : ChainTable → ℕ → List (Entry Value)
 entriesOf t i = chain (vec-items (t .rows)) (chainAt (vec-items (t .chains)) i .head) (chainAt (vec-items (t .chains)) i .len)
@@ -67,10 +67,6 @@ pub record Opens (t t′ : ChainTable) : Type 0 where
   pub rows : vec-len (t′ .rows) ≡ vec-len (t .rows)
   pub used : t′ .used ≡ t .used
   pub others : (j : ℕ) → entriesOf t′ j ≡ entriesOf t j
-
--- there is a chain, and there are no more chains and rows than any limits ask for
-abbrev pub tablesFit : ℕ → ℕ → Bool
-tablesFit chains rows = both (ltb 0 chains) (both (ltb chains 20482) (ltb rows 163841))
 
 -- a table of so many chains and rows: the chain 0 is in use, without entries, no row is taken, and there is one version
 pub record Made (chains rows : ℕ) (t : ChainTable) : Type 0 where

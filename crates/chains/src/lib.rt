@@ -1,4 +1,3 @@
 // Chains of entry rows in one table, over any version order.
-pub mod row;
 pub mod table;
 pub mod walking;

@@ -1,9 +1,9 @@
 // The table of chains: each chain keeps the entries of one owner, and all share the rows.
 ghost use Prim.Native.Nat.{_≤_};
 ghost use Rattle.std.specs.Of.Vec.{vec-items, vec-len};
-ghost use Rattle.chains.specs.Sound.{Sound};
-use crate::row::Chain;
-use crate::row::EntryRow;
+ghost use Rattle.chain_rows.specs.Sound.{Sound};
+use chain_rows::row::Chain;
+use chain_rows::row::EntryRow;
 
 mod ops;
 

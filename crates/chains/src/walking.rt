@@ -9,11 +9,11 @@ ghost use Rattle.order.specs.Items.{position};
 ghost use Rattle.entries.specs.Counts.{versionAt};
 ghost use Rattle.entries.specs.Entries.{has, mapped, put, read};
 ghost use Rattle.slices.specs.Partners.{redirect};
-ghost use Rattle.chains.specs.Chains.{Chained, Drawn, Frame, Off, Shape, Within, blank, chain};
-ghost use Rattle.chains.specs.Skips.{Skipped, passed};
-ghost use Rattle.chains.specs.Spots.{Found};
-use crate::row::EntryRow;
-use crate::row::Spot;
+ghost use Rattle.chain_rows.specs.Chains.{Chained, Drawn, Frame, Off, Shape, Within, blank, chain};
+ghost use Rattle.chain_rows.specs.Skips.{Skipped, passed};
+ghost use Rattle.chain_rows.specs.Spots.{Found};
+use chain_rows::row::EntryRow;
+use chain_rows::row::Spot;
 use fields::kinds::Value;
 use order::VersionOrder;
 
@@ -158,7 +158,7 @@ pub(crate) fn put_entry<O: VersionOrder>(
 }
 
 // A value that names the copy c, with d in its place.
-pub(crate) fn rename_value(v: Value, c: u32, d: u32) -> Value
+pub fn rename_value(v: Value, c: u32, d: u32) -> Value
     ensures { λ r. ⌜ r ≡ redirect c d v ⌝ }
 {
     match v {

@@ -1,4 +1,4 @@
-use Rattle.chains.proofs.Orders.{told}
+use Rattle.chain_rows.proofs.Orders.{told}
 use Rattle.chains.proofs.walking.before.Needs as need
 
 pub returns-in-Ok : need.returns-in-Ok

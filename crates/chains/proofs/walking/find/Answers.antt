@@ -1,11 +1,11 @@
-use Rattle.chains.proofs.Orders.{apart}
+use Rattle.chain_rows.proofs.Orders.{apart}
 use Prim.Native.Nat.{_<_}
 use mathlib.Core.Logic.{inl, inr}
 use lib.ListN.{length}
 use native.Mathlib.Omega.{arith}
 use Rattle.std.specs.Of.Vec.{vec-items}
-use Rattle.chains.proofs.Walks.{within-at, within-step}
-use Rattle.chains.proofs.Finds.{found-before, found-same, passed-more}
+use Rattle.chain_rows.proofs.Walks.{within-at, within-step}
+use Rattle.chain_rows.proofs.Finds.{found-before, found-same, passed-more}
 use Rattle.chains.proofs.walking.find.Needs as need
 
 pub index-row-requires : need.index-row-requires

@@ -1,7 +1,7 @@
 use Rattle.order.specs.Items.{position}
 use lib.ListN.{length}
 use Rattle.std.specs.Of.Vec.{vec-items}
-use Rattle.chains.specs.Spots.{Passed}
+use Rattle.chain_rows.specs.Spots.{Passed}
 use Rattle.chains.proofs.walking.find.Given as given
 
 abbrev pub Inv-loop-left : given.InvT-loop-left

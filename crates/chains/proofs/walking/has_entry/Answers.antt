@@ -1,12 +1,12 @@
 use Rattle.order.specs.Items.{position}
-use Rattle.chains.proofs.Orders.{apart}
+use Rattle.chain_rows.proofs.Orders.{apart}
 use mathlib.Core.Logic.{inl, inr}
 use Prim.Native.Nat.{_<_}
 use native.Mathlib.Omega.{arith}
 use lib.ListN.{length}
 use Rattle.std.specs.Of.Vec.{vec-items}
-use Rattle.chains.proofs.Walks.{within-at, within-step}
-use Rattle.chains.proofs.Looking.{has-here, has-next, has-none}
+use Rattle.chain_rows.proofs.Walks.{within-at, within-step}
+use Rattle.chain_rows.proofs.Looking.{has-here, has-next, has-none}
 use Rattle.chains.proofs.walking.has_entry.Needs as need
 
 pub index-row-requires : need.index-row-requires

@@ -3,9 +3,9 @@ use Prim.Native.Nat.{_<_, _≤_}
 use native.Mathlib.Omega.{arith}
 use lib.ListN.{length}
 use Rattle.std.specs.Of.Vec.{vec-items}
-use Rattle.chains.proofs.Nodes.{chained-within, below-of}
-use Rattle.chains.proofs.Puts.{found-at, found-prev, found-grows, chained-same, drawn-same, puts-same, puts-first, puts-behind}
-use Rattle.chains.proofs.Stays.{stays-same, stays-first, stays-behind}
+use Rattle.chain_rows.proofs.Nodes.{chained-within, below-of}
+use Rattle.chain_rows.proofs.Puts.{found-at, found-prev, found-grows, chained-same, drawn-same, puts-same, puts-first, puts-behind}
+use Rattle.chain_rows.proofs.Stays.{stays-same, stays-first, stays-behind}
 use Rattle.chains.proofs.walking.put_entry.Needs as need
 
 pub find-spot-requires : need.find-spot-requires

@@ -3,7 +3,7 @@ use Prim.Native.Nat.{_<_}
 use lib.ListN.{length}
 use native.Mathlib.Omega.{arith}
 use Rattle.std.specs.Of.Vec.{vec-items}
-use Rattle.chains.proofs.Walks.{within-at, within-step, walk-more, hit, late, other}
+use Rattle.chain_rows.proofs.Walks.{within-at, within-step, walk-more, hit, late, other}
 use Rattle.chains.proofs.walking.read_field.Needs as need
 use Rattle.chains.proofs.walking.read_field.Needs.{then-row-field·then-not-before, else-row-field, else-row-field·by·then-row-field·else-not-before, else-row-field·by·else-row-field}
 

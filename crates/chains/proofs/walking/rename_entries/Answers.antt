@@ -4,7 +4,7 @@ use mathlib.Core.Path.{refl}
 use native.Mathlib.Omega.{arith}
 use lib.ListN.{length}
 use Rattle.std.specs.Of.Vec.{vec-items}
-use Rattle.chains.proofs.Renaming.{done-none, done-more, done-all, done-at, done-version, Turn, turn-hit, turn-late, turn-other}
+use Rattle.chain_rows.proofs.Renaming.{done-none, done-more, done-all, done-at, done-version, Turn, turn-hit, turn-late, turn-other}
 use Rattle.slices.specs.Partners.{redirect}
 use Rattle.chains.proofs.walking.rename_entries.Needs.{then-row-field·then-not-before, else-row-field, else-row-field·by·then-row-field·else-not-before, else-row-field·by·else-row-field}
 use Rattle.chains.proofs.walking.rename_entries.Needs as need

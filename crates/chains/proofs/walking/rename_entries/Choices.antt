@@ -3,9 +3,9 @@ use mathlib.Core.Path.{_≡_}
 use Prim.Native.Nat.{_≤_}
 use lib.ListN.{length}
 use Rattle.std.specs.Of.Vec.{vec-items, vec-len}
-use Rattle.chains.specs.Chains.{Chained}
+use Rattle.chain_rows.specs.Chains.{Chained}
 use Rattle.slices.specs.Partners.{redirect}
-use Rattle.chains.proofs.Renaming.{Done}
+use Rattle.chain_rows.proofs.Renaming.{Done}
 use Rattle.chains.proofs.walking.rename_entries.Given as given
 
 abbrev pub Inv-loop-left : given.InvT-loop-left

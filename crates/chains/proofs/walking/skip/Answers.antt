@@ -4,8 +4,8 @@ use Prim.Native.Nat.{_<_}
 use native.Mathlib.Omega.{arith}
 use lib.ListN.{length}
 use Rattle.std.specs.Of.Vec.{vec-items}
-use Rattle.chains.proofs.Walks.{within-at, within-step}
-use Rattle.chains.proofs.Skipping.{goes-more, goes-stop}
+use Rattle.chain_rows.proofs.Walks.{within-at, within-step}
+use Rattle.chain_rows.proofs.Skipping.{goes-more, goes-stop}
 use Rattle.chains.proofs.walking.skip.Needs as need
 
 pub index-row-requires : need.index-row-requires

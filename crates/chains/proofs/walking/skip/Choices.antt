@@ -1,7 +1,7 @@
 use Rattle.order.specs.Items.{position}
 use lib.ListN.{length}
 use Rattle.std.specs.Of.Vec.{vec-items}
-use Rattle.chains.proofs.Skipping.{Goes}
+use Rattle.chain_rows.proofs.Skipping.{Goes}
 use Rattle.chains.proofs.walking.skip.Given as given
 
 abbrev pub Inv-loop-left : given.InvT-loop-left

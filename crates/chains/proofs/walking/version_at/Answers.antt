@@ -3,8 +3,8 @@ use Prim.Native.Nat.{_<_}
 use native.Mathlib.Omega.{arith}
 use lib.ListN.{length}
 use Rattle.std.specs.Of.Vec.{vec-items}
-use Rattle.chains.proofs.Walks.{within-at, within-step}
-use Rattle.chains.proofs.Looking.{ver-here, ver-next}
+use Rattle.chain_rows.proofs.Walks.{within-at, within-step}
+use Rattle.chain_rows.proofs.Looking.{ver-here, ver-next}
 use Rattle.chains.proofs.walking.version_at.Needs as need
 
 pub index-requires : need.index-requires

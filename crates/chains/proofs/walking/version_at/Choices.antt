@@ -2,7 +2,7 @@ use mathlib.Core.Path.{_≡_}
 use Prim.Native.Nat.{_<_}
 use Rattle.std.specs.Of.Vec.{vec-items}
 use Rattle.entries.specs.Counts.{versionAt}
-use Rattle.chains.specs.Chains.{chain, Within}
+use Rattle.chain_rows.specs.Chains.{chain, Within}
 use Rattle.chains.proofs.walking.version_at.Given as given
 
 abbrev pub Inv-loop-steps : given.InvT-loop-steps

@@ -3,7 +3,7 @@ use native.Mathlib.Omega.{arith}
 use lib.ListN.{length}
 use Rattle.std.specs.Of.Vec.{vec-items}
 use Rattle.chains.proofs.Opened.{opened}
-use Rattle.chains.proofs.Adding.{add-sound}
+use Rattle.chain_rows.proofs.Adding.{add-sound}
 use Rattle.chains.proofs.table.ChainTable.add.Needs as need
 
 pub ghost-self : need.ghost-self

@@ -5,12 +5,12 @@ use lib.ListN.{length}
 use Rattle.std.specs.Of.Vec.{vec-items}
 use Rattle.order.specs.Items.{position}
 use Rattle.entries.specs.Entries.{Sorted, entriesBefore, entriesBehind}
-use Rattle.chains.specs.declared.row.Chain.{Chain}
-use Rattle.chains.specs.Chains.{chain, node}
+use Rattle.chain_rows.specs.declared.row.Chain.{Chain}
+use Rattle.chain_rows.specs.Chains.{chain, node}
 use Rattle.chains.specs.Views.{entriesOf}
 use Rattle.chains.proofs.Opened.{opened, chain-is}
 use Rattle.chains.proofs.Asked.{is-asked, asked-version, asked-within}
-use Rattle.chains.proofs.Cutting.{tail-is, fronts, rears, cut-sound, two-c, two-d, two-j, rest-within}
+use Rattle.chain_rows.proofs.Cutting.{tail-is, fronts, rears, cut-sound, two-c, two-d, two-j, rest-within}
 use Rattle.chains.proofs.table.ChainTable.cut.Needs as need
 
 pub skip-at-requires : need.skip-at-requires

@@ -1,8 +1,8 @@
 use mathlib.Core.Path.{sym, ap, _∙_}
 use Rattle.std.specs.Of.Vec.{vec-items}
-use Rattle.chains.specs.declared.row.Chain.{Chain}
+use Rattle.chain_rows.specs.declared.row.Chain.{Chain}
 use Rattle.chains.proofs.Opened.{chain-is}
-use Rattle.chains.proofs.Puts.{chain-length}
+use Rattle.chain_rows.proofs.Puts.{chain-length}
 use Rattle.chains.proofs.table.ChainTable.length.Needs as need
 
 pub returns : need.returns

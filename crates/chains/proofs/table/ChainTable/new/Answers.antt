@@ -2,7 +2,7 @@ use Prim.Native.Nat.{_<_}
 use native.Mathlib.Omega.{arith}
 use lib.ListN.{length}
 use Rattle.std.specs.Of.Vec.{vec-items}
-use Rattle.chains.proofs.Adding.{made-sound, fit-are}
+use Rattle.chain_rows.proofs.Adding.{made-sound, fit-are}
 use Rattle.chains.proofs.table.ChainTable.new.Needs as need
 
 pub ghost-result : need.ghost-result

@@ -1,6 +1,6 @@
 use Rattle.std.specs.Of.Vec.{vec-items}
 use Rattle.chains.proofs.Opened.{opened}
-use Rattle.chains.proofs.Adding.{open-sound}
+use Rattle.chain_rows.proofs.Adding.{open-sound}
 use Rattle.chains.proofs.table.ChainTable.open.Needs as need
 
 pub ghost-self : need.ghost-self

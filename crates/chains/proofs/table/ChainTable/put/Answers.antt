@@ -5,10 +5,10 @@ use lib.ListN.{length}
 use Rattle.std.specs.Of.Vec.{vec-items, vec-len}
 use Rattle.order.specs.Items.{position}
 use Rattle.entries.specs.Entries.{put}
-use Rattle.chains.specs.declared.row.Chain.{Chain}
-use Rattle.chains.specs.Chains.{Chained, Frame, Drawn}
+use Rattle.chain_rows.specs.declared.row.Chain.{Chain}
+use Rattle.chain_rows.specs.Chains.{Chained, Frame, Drawn}
 use Rattle.chains.proofs.Opened.{opened, chain-is, made-long}
-use Rattle.chains.proofs.Keeping.{put-sound, put-other, put-here}
+use Rattle.chain_rows.proofs.Keeping.{put-sound, put-other, put-here}
 use Rattle.chains.proofs.Asked.{is-asked, asked-version, asked-chained}
 use Rattle.chains.proofs.table.ChainTable.put.Needs as need
 

@@ -7,10 +7,10 @@ use Rattle.order.specs.Items.{position}
 use Rattle.entries.specs.Entries.{mapped}
 use Rattle.entries.proofs.Counting.{mapped-length}
 use Rattle.slices.specs.Partners.{redirect}
-use Rattle.chains.specs.declared.row.Chain.{Chain}
-use Rattle.chains.specs.Chains.{Off, blank}
+use Rattle.chain_rows.specs.declared.row.Chain.{Chain}
+use Rattle.chain_rows.specs.Chains.{Off, blank}
 use Rattle.chains.proofs.Opened.{opened, chain-is}
-use Rattle.chains.proofs.Mapping.{map-sound, map-other, map-here}
+use Rattle.chain_rows.proofs.Mapping.{map-sound, map-other, map-here}
 use Rattle.chains.proofs.Asked.{is-asked, asked-version, asked-chained}
 use Rattle.chains.proofs.table.ChainTable.rename.Needs as need
 

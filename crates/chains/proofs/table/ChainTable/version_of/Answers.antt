@@ -1,11 +1,10 @@
 use mathlib.Core.Path.{refl, ap}
 use native.Mathlib.Omega.{arith}
 use Rattle.std.specs.Of.Vec.{vec-items}
-use Rattle.chains.specs.declared.row.Chain.{Chain}
-use Rattle.chains.specs.Sound.{chainAt}
-use Rattle.chains.proofs.Opened.{chain-is}
-use Rattle.chains.proofs.Mapping.{walkable}
-use Rattle.chains.proofs.Puts.{chain-length}
+use Rattle.chain_rows.specs.declared.row.Chain.{Chain}
+use Rattle.chain_rows.specs.Sound.{chainAt}
+use Rattle.chains.proofs.Opened.{chain-is, walkable}
+use Rattle.chain_rows.proofs.Puts.{chain-length}
 use Rattle.chains.proofs.table.ChainTable.version_of.Needs as need
 
 pub returns-then-k-chain : need.returns-then-k-chain

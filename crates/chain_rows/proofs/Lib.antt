@@ -1,0 +1,15 @@
+pub mod Nodes
+pub mod Walks
+pub mod Splices
+pub mod Finds
+pub mod Looking
+pub mod Skipping
+pub mod Puts
+pub mod Keeps
+pub mod Stays
+pub mod Renaming
+pub mod Orders
+pub mod Keeping
+pub mod Cutting
+pub mod Adding
+pub mod Mapping

@@ -1,0 +1,4 @@
+pub mod Chains
+pub mod Spots
+pub mod Skips
+pub mod Sound

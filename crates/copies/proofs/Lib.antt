@@ -1,0 +1,5 @@
+pub mod Owning
+pub mod Holding
+pub mod Setting
+pub mod Redirecting
+pub mod Bridging
