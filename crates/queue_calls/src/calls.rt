@@ -1,7 +1,7 @@
 // The calls of the queues: due is the heap of root 1, held that of root 2. A job is the place of its key in the book.
 ghost use Rattle.books.specs.Books.{bookKeys};
 ghost use Rattle.places.specs.Places.{placeFirst};
-ghost use Rattle.memory.specs.Promises.{Runs};
+ghost use Rattle.memory.specs.Promises.{Runs, Carries};
 ghost use Rattle.queue_steps.specs.Queues.{pushOf, partOf, popOf, topOf, releaseOf};
 use crate::merging::merge;
 use books::book::Book;
@@ -57,12 +57,13 @@ pub fn pop<K: Key, M: PointerMemory, O: VersionOrder>(
     Ok(Some(place))
 }
 
-// The place of the first due job, or nothing where no job is due.
+// The place of the first due job, or nothing where no job is due. Nothing but registers is moved.
 pub fn top<M: PointerMemory, O: VersionOrder>(
     mem: &mut M,
     order: &O,
 ) -> Result<Option<u32>, MemoryRefusal>
-    ensures { λ q. ⌜ Runs (λ s. M·PointerMemory .means s (O·VersionOrder .items (now (order .entry)))) (now (mem .entry)) (now (mem .exit)) q (topOf 1) ⌝ }
+    ensures runs { λ q. ⌜ Runs (λ s. M·PointerMemory .means s (O·VersionOrder .items (now (order .entry)))) (now (mem .entry)) (now (mem .exit)) q (topOf 1) ⌝ }
+    ensures alike { λ _. ⌜ Carries (M·PointerMemory .alike) (now (mem .entry)) (now (mem .exit)) ⌝ }
 {
     mem.load(order, 1, 0)?;
     if mem.is_nil(order, 0)? {

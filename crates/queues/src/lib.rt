@@ -1,7 +1,7 @@
 // The two queues, due and held, over any memory, any order and any key. A job is the place of its key in the book.
 ghost use Rattle.books.specs.Books.{bookKeys};
 ghost use Rattle.places.specs.Places.{placeFirst};
-ghost use Rattle.memory.specs.Promises.{Runs};
+ghost use Rattle.memory.specs.Promises.{Runs, Carries};
 ghost use Rattle.queue_steps.specs.Queues.{pushOf, popOf, topOf, releaseOf};
 ghost use Rattle.queues.specs.Promised.{Pushes, Holds, Pops, Tops, Releases};
 use books::book::Book;
@@ -49,13 +49,14 @@ pub fn pop<K: Key, M: PointerMemory, O: VersionOrder>(
     calls::pop(mem, order, book)
 }
 
-// The place of the first due job, or nothing where no job is due.
+// The place of the first due job, or nothing where no job is due. Nothing but registers is moved.
 pub fn top<M: PointerMemory, O: VersionOrder>(
     mem: &mut M,
     order: &O,
 ) -> Result<Option<u32>, MemoryRefusal>
     ensures runs { λ q. ⌜ Runs (λ s. M·PointerMemory .means s (O·VersionOrder .items (now (order .entry)))) (now (mem .entry)) (now (mem .exit)) q (topOf 1) ⌝ }
     ensures tops { λ q. ⌜ Tops (λ s. M·PointerMemory .means s (O·VersionOrder .items (now (order .entry)))) (now (mem .entry)) (now (mem .exit)) q ⌝ }
+    ensures alike { λ _. ⌜ Carries (M·PointerMemory .alike) (now (mem .entry)) (now (mem .exit)) ⌝ }
 {
     calls::top(mem, order)
 }
