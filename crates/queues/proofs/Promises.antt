@@ -54,4 +54,7 @@ module _ {S : Type 0} {P : S → Memory → Type 0} {s t : S} (sooner : ℕ → 
       (λ _ m′ F. (F, merge-joins ℕ sooner o due held (S .dueHeap) (S .heldHeap))))
 
 pub tops : {S : Type 0} {P : S → Memory → Type 0} {s t : S} {r : Result (Option ℕ) MemoryRefusal} → Runs P s t r (topOf 1) → Tops P s t r
-tops run before sooner m map due held h S = accepted _ _ (run m h) (top-answers before sooner m map due held S)
+tops run before sooner o m map leaf held h S = accepted _ _ (run m h) (top-answers before sooner m map leaf held S)
+tops run before sooner o m map (node n c e l r) held h S =
+    accepted _ _ (run m h) (ends-all (topOf 1 m) _ _ (top-answers before sooner m map (node n c e l r) held S)
+    (λ k m′ F. (F .0, taken ℕ sooner o n c e l r (S .dueHeap) .first, F .1)))

@@ -6,6 +6,7 @@
 --   PopLeaves   what pop answers and leaves
 --   Roomy       a job can be added
 --   Ready       a job can be taken out, or all held ones moved
+--   TopAnswers  what top answers
 --   Pushes, Holds, Pops, Tops, Releases    the promises of the five calls
 use mathlib.Core.Path.{_≡_}
 use mathlib.Core.Bool.{Bool}
@@ -16,10 +17,12 @@ use Rattle.std.specs.declared.result.Result.{Result}
 use Rattle.std.specs.declared.result.Result.the-variants.{Ok}
 use Rattle.refusals.specs.declared.kinds.MemoryRefusal.{MemoryRefusal}
 use Rattle.trees.specs.Trees.{Entry, Tree, leaf, node}
+use Rattle.trees.specs.Lists.{KeyOrder}
+use Rattle.trees.specs.Leftist.{NoneBefore}
 use Rattle.trees.specs.Theorems.{merge, pushed, popped, MergedOf, PushedTo, PoppedFrom}
 use Rattle.memory.specs.Memory.{Memory}
 use Rattle.stored.specs.Whole.{Stands, Room, Untouched}
-use Rattle.queue_steps.specs.Theorems.{QueuesAre, firstDue}
+use Rattle.queue_steps.specs.Theorems.{QueuesAre}
 
 -- the result r is accepted with an answer, and the memory t means one of which Q holds
 pub record Accepted {S A : Type 0} (P : S → Memory → Type 0) (t : S) (r : Result A MemoryRefusal) (Q : A → Memory → Type 0) : Type 0 where
@@ -68,7 +71,12 @@ module _ {S : Type 0} (P : S → Memory → Type 0) (s t : S) (sooner : ℕ → 
   Releases r = (before : ℕ → ℕ → Bool) (m : Memory) (map : Tree Bool ℕ) (due held : Tree ℕ ℕ) → P s m → Stands before sooner m map due held → Ready m
       → Accepted P t r (λ _ m′. QueuesAre before sooner m m′ map (merge sooner due held) leaf 0 × MergedOf sooner due held (merge sooner due held))
 
--- the first due job, by whatever order the heaps have, is answered, and nothing but registers is changed
+-- what top answers: nothing, or a due job that no other goes before; nothing but registers is changed
+abbrev pub TopAnswers : (ℕ → ℕ → Bool) → Memory → Tree ℕ ℕ → Option ℕ → Memory → Type 0
+TopAnswers sooner m leaf k m′ = (k ≡ None) × Untouched m m′
+TopAnswers sooner m (node n c e l r) k m′ = (k ≡ Some (e .key)) × NoneBefore sooner (e .key) (node n c e l r) × Untouched m m′
+
+-- by whatever order the heaps have
 abbrev pub Tops : {S : Type 0} → (S → Memory → Type 0) → S → S → Result (Option ℕ) MemoryRefusal → Type 0
-Tops P s t r = (before sooner : ℕ → ℕ → Bool) (m : Memory) (map : Tree Bool ℕ) (due held : Tree ℕ ℕ) → P s m → Stands before sooner m map due held
-    → Accepted P t r (λ k m′. (k ≡ firstDue before sooner due) × Untouched m m′)
+Tops P s t r = (before sooner : ℕ → ℕ → Bool) → KeyOrder sooner → (m : Memory) (map : Tree Bool ℕ) (due held : Tree ℕ ℕ) → P s m → Stands before sooner m map due held
+    → Accepted P t r (λ k m′. TopAnswers sooner m due k m′)
