@@ -16,7 +16,7 @@ use Rattle.std.specs.declared.option.Option.the-variants.{Some, None}
 use Rattle.std.specs.declared.result.Result.{Result}
 use Rattle.std.specs.declared.result.Result.the-variants.{Ok}
 use Rattle.refusals.specs.declared.kinds.MemoryRefusal.{MemoryRefusal}
-use Rattle.trees.specs.Trees.{Entry, Tree, leaf, node}
+use Rattle.trees.specs.Trees.{Tree, leaf, node}
 use Rattle.trees.specs.Lists.{KeyOrder}
 use Rattle.trees.specs.Leftist.{NoneBefore}
 use Rattle.trees.specs.Theorems.{merge, pushed, popped, MergedOf, PushedTo, PoppedFrom}
