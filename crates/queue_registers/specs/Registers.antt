@@ -1,8 +1,8 @@
 -- Pop and release ask that register 35 is nil. It stays so from one call of the queues to the next.
 --
---   Keeps       a row of steps, where it is accepted, leaves x in register 35
---   KeepsNil    the rows of the queues do
---   Nil-stays   from every memory
+--   KeepsIs, Keeps   a row of steps, where it is accepted, leaves x in register 35
+--   KeepsNil         the rows of the queues do
+--   Nil-stays        from every memory
 use mathlib.Core.Path.{_≡_}
 use mathlib.Core.Bool.{Bool}
 use Prim.Native.Nat.{ℕ}

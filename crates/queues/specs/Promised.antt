@@ -24,13 +24,15 @@ use Rattle.memory.specs.Memory.{Memory}
 use Rattle.stored.specs.Whole.{Stands, Room, Untouched}
 use Rattle.queue_steps.specs.Theorems.{QueuesAre}
 
--- the result r is accepted with an answer, and the memory t means one of which Q holds
-pub record Accepted {S A : Type 0} (P : S → Memory → Type 0) (t : S) (r : Result A MemoryRefusal) (Q : A → Memory → Type 0) : Type 0 where
+-- the result r is accepted with an answer, and the memory t, which meant m before, means one of which Q holds
+pub record Accepted {S A : Type 0} (P : S → Memory → Type 0) (m : Memory) (t : S) (r : Result A MemoryRefusal) (Q : A → Memory → Type 0) : Type 0 where
   pub answer : A
   pub after : Memory
   pub ok : r ≡ Ok answer
   pub means : P t after
   pub holds : Q answer after
+  -- register 35 is as it was
+  pub still : after .regs 35 ≡ m .regs 35
 
 -- what pop answers and leaves: nothing, with nothing written, or the first due job, which is then gone
 abbrev pub PopLeaves : (ℕ → ℕ → Bool) → (ℕ → ℕ → Bool) → Memory → Tree Bool ℕ → Tree ℕ ℕ → Tree ℕ ℕ → Option ℕ → Memory → Type 0
@@ -54,22 +56,22 @@ module _ {S : Type 0} (P : S → Memory → Type 0) (s t : S) (sooner : ℕ → 
   -- the job k becomes due, as a new node; the map and held are as before
   abbrev pub Pushes : ℕ → Result Unit MemoryRefusal → Type 0
   Pushes k r = (before : ℕ → ℕ → Bool) (m : Memory) (map : Tree Bool ℕ) (due held : Tree ℕ ℕ) → P s m → Stands before sooner m map due held → Roomy m
-      → Accepted P t r (λ _ m′. QueuesAre before sooner m m′ map (pushed sooner (m .made) k due) held 1 × PushedTo sooner (m .made) k due (pushed sooner (m .made) k due))
+      → Accepted P m t r (λ _ m′. QueuesAre before sooner m m′ map (pushed sooner (m .made) k due) held 1 × PushedTo sooner (m .made) k due (pushed sooner (m .made) k due))
 
   -- the job k is held, as a new node; the map and due are as before
   abbrev pub Holds : ℕ → Result Unit MemoryRefusal → Type 0
   Holds k r = (before : ℕ → ℕ → Bool) (m : Memory) (map : Tree Bool ℕ) (due held : Tree ℕ ℕ) → P s m → Stands before sooner m map due held → Roomy m
-      → Accepted P t r (λ _ m′. QueuesAre before sooner m m′ map due (pushed sooner (m .made) k held) 1 × PushedTo sooner (m .made) k held (pushed sooner (m .made) k held))
+      → Accepted P m t r (λ _ m′. QueuesAre before sooner m m′ map due (pushed sooner (m .made) k held) 1 × PushedTo sooner (m .made) k held (pushed sooner (m .made) k held))
 
   -- the first due job goes; the map and held are as before
   abbrev pub Pops : Result (Option ℕ) MemoryRefusal → Type 0
   Pops r = (before : ℕ → ℕ → Bool) (m : Memory) (map : Tree Bool ℕ) (due held : Tree ℕ ℕ) → P s m → Stands before sooner m map due held → Ready m
-      → Accepted P t r (λ k m′. PopLeaves before sooner m map due held k m′)
+      → Accepted P m t r (λ k m′. PopLeaves before sooner m map due held k m′)
 
   -- the held jobs become due, and none is held; the map is as before
   abbrev pub Releases : Result Unit MemoryRefusal → Type 0
   Releases r = (before : ℕ → ℕ → Bool) (m : Memory) (map : Tree Bool ℕ) (due held : Tree ℕ ℕ) → P s m → Stands before sooner m map due held → Ready m
-      → Accepted P t r (λ _ m′. QueuesAre before sooner m m′ map (merge sooner due held) leaf 0 × MergedOf sooner due held (merge sooner due held))
+      → Accepted P m t r (λ _ m′. QueuesAre before sooner m m′ map (merge sooner due held) leaf 0 × MergedOf sooner due held (merge sooner due held))
 
 -- what top answers: nothing, or a due job that no other goes before; nothing but registers is changed
 abbrev pub TopAnswers : (ℕ → ℕ → Bool) → Memory → Tree ℕ ℕ → Option ℕ → Memory → Type 0
@@ -79,4 +81,4 @@ TopAnswers sooner m (node n c e l r) k m′ = (k ≡ Some (e .key)) × NoneBefor
 -- by whatever order the heaps have
 abbrev pub Tops : {S : Type 0} → (S → Memory → Type 0) → S → S → Result (Option ℕ) MemoryRefusal → Type 0
 Tops P s t r = (before sooner : ℕ → ℕ → Bool) → KeyOrder sooner → (m : Memory) (map : Tree Bool ℕ) (due held : Tree ℕ ℕ) → P s m → Stands before sooner m map due held
-    → Accepted P t r (λ k m′. TopAnswers sooner m due k m′)
+    → Accepted P m t r (λ k m′. TopAnswers sooner m due k m′)
