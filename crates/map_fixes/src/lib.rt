@@ -37,7 +37,7 @@ pub fn is_red<M: PointerMemory, O: VersionOrder>(
 }
 
 // The red near child of the sibling, in register 28, is rotated above it, into register 26; the far child is then in register 27.
-pub fn tilt<M: PointerMemory, O: VersionOrder>(
+fn tilt<M: PointerMemory, O: VersionOrder>(
     mem: &mut M,
     order: &O,
     d: usize,
@@ -53,7 +53,7 @@ pub fn tilt<M: PointerMemory, O: VersionOrder>(
 }
 
 // The sibling, whose far child in register 27 is red, is rotated above its parent, and gets the parent's colour.
-pub fn spin<M: PointerMemory, O: VersionOrder>(
+fn spin<M: PointerMemory, O: VersionOrder>(
     mem: &mut M,
     order: &O,
     d: usize,
@@ -70,7 +70,7 @@ pub fn spin<M: PointerMemory, O: VersionOrder>(
 }
 
 // The sibling becomes red, its parent black: short now is the whole, unless the parent was red.
-pub fn pass_up<M: PointerMemory, O: VersionOrder>(
+fn pass_up<M: PointerMemory, O: VersionOrder>(
     mem: &mut M,
     order: &O,
     d: usize,
@@ -84,7 +84,7 @@ pub fn pass_up<M: PointerMemory, O: VersionOrder>(
 }
 
 // A black sibling with a red child is rotated above its parent.
-pub fn lift_sibling<M: PointerMemory, O: VersionOrder>(
+fn lift_sibling<M: PointerMemory, O: VersionOrder>(
     mem: &mut M,
     order: &O,
     d: usize,
@@ -102,7 +102,7 @@ pub fn lift_sibling<M: PointerMemory, O: VersionOrder>(
 }
 
 // Puts a short side right beside a black sibling, whose children are in registers 27 and 28.
-pub fn fix_by_colours<M: PointerMemory, O: VersionOrder>(
+fn fix_by_colours<M: PointerMemory, O: VersionOrder>(
     mem: &mut M,
     order: &O,
     d: usize,
@@ -121,7 +121,7 @@ pub fn fix_by_colours<M: PointerMemory, O: VersionOrder>(
 }
 
 // Puts a short side right beside a black sibling.
-pub fn sibling_fix<M: PointerMemory, O: VersionOrder>(
+fn sibling_fix<M: PointerMemory, O: VersionOrder>(
     mem: &mut M,
     order: &O,
     d: usize,
@@ -138,7 +138,7 @@ pub fn sibling_fix<M: PointerMemory, O: VersionOrder>(
 }
 
 // The child on a side is cut off, put right where it is short on the same side, and linked again.
-pub fn regraft<M: PointerMemory, O: VersionOrder>(
+fn regraft<M: PointerMemory, O: VersionOrder>(
     mem: &mut M,
     order: &O,
     d: usize,
@@ -158,7 +158,7 @@ pub fn regraft<M: PointerMemory, O: VersionOrder>(
 }
 
 // A red sibling, in register 26, is rotated above its parent; the short side's new sibling is black.
-pub fn red_sibling<M: PointerMemory, O: VersionOrder>(
+fn red_sibling<M: PointerMemory, O: VersionOrder>(
     mem: &mut M,
     order: &O,
     d: usize,

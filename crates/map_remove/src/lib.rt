@@ -24,7 +24,7 @@ use tree_calls::set_mark;
 use tree_calls::side_number;
 
 // A node is gone, and what was below it stands in its place: where both are black, the whole is short.
-pub fn spliced<M: PointerMemory, O: VersionOrder>(
+fn spliced<M: PointerMemory, O: VersionOrder>(
     mem: &mut M,
     order: &O,
     d: usize,
@@ -43,7 +43,7 @@ pub fn spliced<M: PointerMemory, O: VersionOrder>(
 }
 
 // Clears the links of the node in register 36: both where it is taken out, else the one to its child.
-pub fn unlink<M: PointerMemory, O: VersionOrder>(
+fn unlink<M: PointerMemory, O: VersionOrder>(
     mem: &mut M,
     order: &O,
     out: bool,
@@ -58,7 +58,7 @@ pub fn unlink<M: PointerMemory, O: VersionOrder>(
 }
 
 // The node under d, with one child at most, on a side, leaves its place to the child and goes into register 36.
-pub fn take<M: PointerMemory, O: VersionOrder>(
+fn take<M: PointerMemory, O: VersionOrder>(
     mem: &mut M,
     order: &O,
     out: bool,
@@ -75,7 +75,7 @@ pub fn take<M: PointerMemory, O: VersionOrder>(
 }
 
 // The first node of the tree under d leaves its place, into register 36.
-pub fn take_first<M: PointerMemory, O: VersionOrder>(
+fn take_first<M: PointerMemory, O: VersionOrder>(
     mem: &mut M,
     order: &O,
     d: usize,
@@ -94,7 +94,7 @@ pub fn take_first<M: PointerMemory, O: VersionOrder>(
 }
 
 // The node of register 36 takes the place and colour of the one under d, whose children are in registers 37 and d + 1.
-pub fn replace<M: PointerMemory, O: VersionOrder>(
+fn replace<M: PointerMemory, O: VersionOrder>(
     mem: &mut M,
     order: &O,
     d: usize,
@@ -113,7 +113,7 @@ pub fn replace<M: PointerMemory, O: VersionOrder>(
 }
 
 // The node under d, with two children, is taken out: the first node of its right side takes its place.
-pub fn swap_out<M: PointerMemory, O: VersionOrder>(
+fn swap_out<M: PointerMemory, O: VersionOrder>(
     mem: &mut M,
     order: &O,
     d: usize,
@@ -133,7 +133,7 @@ pub fn swap_out<M: PointerMemory, O: VersionOrder>(
 }
 
 // The node under d is taken out.
-pub fn root_out<M: PointerMemory, O: VersionOrder>(
+fn root_out<M: PointerMemory, O: VersionOrder>(
     mem: &mut M,
     order: &O,
     d: usize,
@@ -155,7 +155,7 @@ pub fn root_out<M: PointerMemory, O: VersionOrder>(
 }
 
 // The node with a key is taken out of the tree under d.
-pub fn remove<M: PointerMemory, O: VersionOrder, K: Key>(
+fn remove<M: PointerMemory, O: VersionOrder, K: Key>(
     mem: &mut M,
     order: &O,
     book: &Book<K>,

@@ -5,7 +5,7 @@ use Rattle.map_remove.proofs.Levels.{came-by, on-none, on-some, remove-out, re
 use Rattle.memory.proofs.Rows.{step-ok, step-exit, run-ok, run-exit}
 use Rattle.memory.specs.Steps.{followOf}
 use Rattle.places.specs.Places.{wayFrom}
-use mathlib.Core.Path.{refl, sym, _∙_}
+use mathlib.Core.Path.{sym, _∙_}
 use native.Mathlib.Omega.{arith}
 use Rattle.map_remove.proofs.+remove.Needs as need
 
