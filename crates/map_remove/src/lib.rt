@@ -6,6 +6,7 @@ ghost use Rattle.books.specs.Books.{bookKeys};
 ghost use Rattle.places.specs.Places.{wayFrom};
 ghost use Rattle.map_steps.specs.Remove.{splicedOf, takeOf, firstOf, replaceOf, swapOutOf, rootOutOf, removeOf, dropOf};
 ghost use Rattle.map_remove.specs.Taking.{unlinkOf};
+ghost use Rattle.map_remove.specs.Dropping.{Drops};
 ghost use Prim.Native.Nat.{_+_, _-_};
 use books::book::Book;
 use keys::key::Key;
@@ -176,8 +177,8 @@ fn remove<M: PointerMemory, O: VersionOrder, K: Key>(
     step_up(mem, order, d, right, short)
 }
 
-// The node with a key is taken out of the map.
-pub fn drop_key<M: PointerMemory, O: VersionOrder, K: Key>(
+// The node with a key is taken out of the tree at root 0.
+fn drop_row<M: PointerMemory, O: VersionOrder, K: Key>(
     mem: &mut M,
     order: &O,
     book: &Book<K>,
@@ -188,4 +189,17 @@ pub fn drop_key<M: PointerMemory, O: VersionOrder, K: Key>(
     mem.load(order, 0, 0)?;
     let _ = remove(mem, order, book, key, 0)?;
     save(mem, order, 0, 0)
+}
+
+// Takes a key that is there out of the map.
+pub fn drop_key<M: PointerMemory, O: VersionOrder, K: Key>(
+    mem: &mut M,
+    order: &O,
+    book: &Book<K>,
+    key: K,
+) -> Result<(), MemoryRefusal>
+    ensures runs { λ q. ⌜ Runs (λ s. M·PointerMemory .means s (O·VersionOrder .items (now (order .entry)))) (now (mem .entry)) (now (mem .exit)) q (dropOf (wayFrom (K·Key .first) (bookKeys (now (book .entry))) key)) ⌝ }
+    ensures drops { λ q. ⌜ Drops (λ s. M·PointerMemory .means s (O·VersionOrder .items (now (order .entry)))) (now (mem .entry)) (now (mem .exit)) q (K·Key .first) (bookKeys (now (book .entry))) key ⌝ }
+{
+    drop_row(mem, order, book, key)
 }

@@ -13,12 +13,17 @@ returns-then-d-ge40 g c m h = refused _ (step-up-out (c .args .d) (c .args .righ
 
 pub returns-in-Break-relink : need.returns-in-Break-relink
 unfolding stepUpOf
-returns-in-Break-relink g c m h = run-exit _ (c .from-residual .ensures .1) ((runs-at (λ k. relinkOf (c .args .d) (c .args .right) k) (add-one (c .args .d)) (c .in-Break-relink .ensures tt)) m h)
+returns-in-Break-relink g c m h =
+    run-exit _ (c .from-residual .ensures .1) (runs-at (λ k. relinkOf (c .args .d) (c .args .right) k) (add-one (c .args .d)) (c .in-Break-relink .ensures tt) m h)
 
 pub returns-then-short : need.returns-then-short
 unfolding stepUpOf
-returns-then-short g c m h = run-ok _ ((runs-at (λ k. relinkOf (c .args .d) (c .args .right) k) (add-one (c .args .d)) (c .in-Continue-relink .ensures tt)) m h) (λ m1 p1. on-true _ _ _ (c .if-short .taken) (c .short-fix .ensures m1 p1))
+returns-then-short g c m h =
+    run-ok _ (runs-at (λ k. relinkOf (c .args .d) (c .args .right) k) (add-one (c .args .d)) (c .in-Continue-relink .ensures tt) m h) (λ m1 p1.
+    on-true _ _ _ (c .if-short .taken) (c .short-fix .ensures m1 p1))
 
 pub returns : need.returns
 unfolding stepUpOf
-returns g c m h = run-ok _ ((runs-at (λ k. relinkOf (c .args .d) (c .args .right) k) (add-one (c .args .d)) (c .in-Continue-relink .ensures tt)) m h) (λ m1 p1. on-false _ _ _ (c .if-short .left) (record { to = (refl, p1) }))
+returns g c m h =
+    run-ok _ (runs-at (λ k. relinkOf (c .args .d) (c .args .right) k) (add-one (c .args .d)) (c .in-Continue-relink .ensures tt) m h) (λ m1 p1.
+    on-false _ _ _ (c .if-short .left) (record { to = (refl, p1) }))

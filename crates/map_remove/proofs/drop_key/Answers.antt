@@ -1,15 +1,9 @@
-use Rattle.map_steps.specs.Remove.{dropOf}
-use Rattle.memory.proofs.Rows.{step-ok, step-exit, run-ok, run-exit}
+use Rattle.books.specs.Books.{bookKeys}
+use Rattle.places.specs.Places.{KeyLaws}
+use Rattle.map_remove.proofs.Whole.{drops}
 use Rattle.map_remove.proofs.drop_key.Needs as need
 
-pub returns-in-Break-load : need.returns-in-Break-load
-unfolding dropOf
-returns-in-Break-load g c m h = step-exit _ (c .from-residual .ensures .1) ((c .in-Break-load .ensures tt .does) m h)
-
-pub returns-in-Break-remove : need.returns-in-Break-remove
-unfolding dropOf
-returns-in-Break-remove g c m h = step-ok _ ((c .in-Continue-load .ensures tt .does) m h) (λ m1 p1. run-exit _ (c .from-residual-in-Break-remove .ensures .1) ((c .in-Break-remove .ensures tt) m1 p1))
-
 pub returns : need.returns
-unfolding dropOf
-returns g c m h = step-ok _ ((c .in-Continue-load .ensures tt .does) m h) (λ m1 p1. run-ok _ ((c .in-Continue-remove .ensures tt) m1 p1) (λ m2 p2. c .save .ensures m2 p2))
+returns g c =
+    let laws : KeyLaws (g .K·Key .first) = record { irreflexive = g .K·Key·met .irreflexive; transitive = g .K·Key·met .transitive; total = g .K·Key·met .total } in
+    record { runs = c .drop-row .ensures; drops = drops (g .K·Key .first) (bookKeys (c .args .book .now)) (c .args .key) laws (c .drop-row .ensures) }
