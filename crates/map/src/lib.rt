@@ -6,6 +6,7 @@ ghost use Rattle.books.specs.Books.{bookKeys};
 ghost use Rattle.memory.specs.Promises.{Runs};
 ghost use Rattle.places.specs.Places.{goesLeft, wayFrom};
 ghost use Rattle.map_steps.specs.Find.{findOf, lookupOf, getOf, setOf, seekOf};
+ghost use Rattle.map.specs.Next.{nextPairOf, Next-paired};
 use books::book::Book;
 use keys::key::Key;
 use memory::pointer::PointerMemory;
@@ -111,4 +112,23 @@ pub(crate) fn seek<M: PointerMemory, O: VersionOrder, K: Key>(
     }
     mem.follow(order, d, 1, d + 1)?;
     seek(mem, order, book, key, d + 1, best)
+}
+
+// The first entry above a key, its key's place and its value, or nothing.
+pub fn next<M: PointerMemory, O: VersionOrder, K: Key>(
+    mem: &mut M,
+    order: &O,
+    book: &Book<K>,
+    key: K,
+) -> Result<Option<(u32, u64)>, MemoryRefusal>
+    ensures runs { λ q. ⌜ Runs (λ s. M·PointerMemory .means s (O·VersionOrder .items (now (order .entry)))) (now (mem .entry)) (now (mem .exit)) q (nextPairOf (goesLeft (K·Key .first) (bookKeys (now (book .entry))) key)) ⌝ }
+    ensures paired { λ _. ⌜ Next-paired ⌝ }
+{
+    mem.load(order, 0, 0)?;
+    let Some(reg) = seek(mem, order, book, key, 0, None)? else {
+        return Ok(None);
+    };
+    let above = mem.key(order, reg)?;
+    let value = mem.value(order, reg)?;
+    Ok(Some((above, value)))
 }
