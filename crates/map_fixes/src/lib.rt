@@ -3,10 +3,10 @@
 // depth d, and register 35 is nil.
 ghost use Rattle.memory.specs.Promises.{Runs};
 ghost use Rattle.stored.specs.Stored.{colour};
-ghost use Rattle.map_steps.specs.Insert.{redOf};
 ghost use Rattle.map_steps.specs.Remove.{tiltOf, spinOf, passUpOf, siblingFixOf, regraftOf, redSiblingOf, shortFixOf, stepUpOf};
 ghost use Rattle.map_fixes.specs.Fixes.{liftOf, coloursOf};
 ghost use mathlib.Core.Path.{_≡_};
+use map_insert::is_red;
 use memory::pointer::PointerMemory;
 use order::VersionOrder;
 use refusals::kinds::MemoryRefusal;
@@ -20,20 +20,6 @@ pub fn colour_mark(red: bool) -> u32
     ensures { λ r. ⌜ r ≡ colour red ⌝ }
 {
     if red { 1 } else { 0 }
-}
-
-// Whether a register's node is red; nil is black.
-pub fn is_red<M: PointerMemory, O: VersionOrder>(
-    mem: &M,
-    order: &O,
-    r: usize,
-) -> Result<bool, MemoryRefusal>
-    ensures { λ q. ⌜ Runs (λ s. M·PointerMemory .means s (O·VersionOrder .items (now (order .entry)))) (now (mem .entry)) (now (mem .entry)) q (redOf r) ⌝ }
-{
-    if mem.is_nil(order, r)? {
-        return Ok(false);
-    }
-    Ok(mem.mark(order, r)? == 1)
 }
 
 // The red near child of the sibling, in register 28, is rotated above it, into register 26; the far child is then in register 27.
