@@ -1,0 +1,28 @@
+use Rattle.map_steps.specs.Remove.{redSiblingOf}
+use Rattle.memory.proofs.Rows.{run-ok, run-exit}
+use Rattle.map_fixes.proofs.red_sibling.Needs as need
+
+pub returns-in-Break-set-mark : need.returns-in-Break-set-mark
+unfolding redSiblingOf
+returns-in-Break-set-mark g c m h = run-exit _ (c .from-residual .ensures .1) (c .in-Break-set-mark .ensures tt m h)
+
+pub returns-in-Break-set-mark-2 : need.returns-in-Break-set-mark-2
+unfolding redSiblingOf
+returns-in-Break-set-mark-2 g c m h =
+    run-ok _ (c .in-Continue-set-mark .ensures tt m h) (λ m1 p1.
+    run-exit _ (c .from-residual-in-Break-set-mark-2 .ensures .1) (c .in-Break-set-mark-2 .ensures tt m1 p1))
+
+pub returns-in-Break-rotate : need.returns-in-Break-rotate
+unfolding redSiblingOf
+returns-in-Break-rotate g c m h =
+    run-ok _ (c .in-Continue-set-mark .ensures tt m h) (λ m1 p1.
+    run-ok _ (c .in-Continue-set-mark-2 .ensures tt m1 p1) (λ m2 p2.
+    run-exit _ (c .from-residual-in-Break-rotate .ensures .1) (c .in-Break-rotate .ensures tt m2 p2)))
+
+pub returns : need.returns
+unfolding redSiblingOf
+returns g c m h =
+    run-ok _ (c .in-Continue-set-mark .ensures tt m h) (λ m1 p1.
+    run-ok _ (c .in-Continue-set-mark-2 .ensures tt m1 p1) (λ m2 p2.
+    run-ok _ (c .in-Continue-rotate .ensures tt m2 p2) (λ m3 p3.
+    c .regraft .ensures m3 p3)))
