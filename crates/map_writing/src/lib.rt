@@ -2,6 +2,7 @@
 ghost use Rattle.books.specs.Books.{bookKeys};
 ghost use Rattle.memory.specs.Memory.{Memory};
 ghost use Rattle.map_writing.specs.Writing.{Replaces-value, Adds-key};
+ghost use Rattle.map_writing.specs.Growth.{Book-grows};
 use books::book::Book;
 use keys::key::Key;
 use map::set;
@@ -35,4 +36,11 @@ pub fn add_new<M: PointerMemory, O: VersionOrder, K: Key>(
     ensures { λ q. ⌜ ((m : Memory) → M·PointerMemory .means (now (mem .entry)) (O·VersionOrder .items (now (order .entry))) m → Adds-key (K·Key .first) (bookKeys (now (book .entry))) key (λ s. M·PointerMemory .means s (O·VersionOrder .items (now (order .entry)))) (now (mem .exit)) place value q m) ⌝ }
 {
     add(mem, order, book, key, place, value)
+}
+
+// Keys that are added to the book leave the map as it is.
+pub fn book_growth_holds<K>() -> u8
+    ensures { λ _. ⌜ Book-grows K ⌝ }
+{
+    0
 }
