@@ -34,13 +34,13 @@ module _ (n : ℕ) (a b : ℕ → ℕ → Bool) (alike : (p q : ℕ) → p < n �
   after-alike k [] l i h = tt
   after-alike k (x ∷ xs) l i h = (alike k (x .key) l (i .0) ∙ h .0, after-alike k xs l (i .1) (h .1))
 
-  sorted-alike : (xs : List (Entry ℕ)) → InBook n xs → Sorted a xs → Sorted b xs
+  pub sorted-alike : (xs : List (Entry ℕ)) → InBook n xs → Sorted a xs → Sorted b xs
   sorted-alike [] i h = tt
   sorted-alike (x ∷ xs) i h = (after-alike (x .key) xs (i .0) (i .1) (h .0), sorted-alike xs (i .1) (h .1))
 
 module _ {K : Type 0} (first : K → K → Bool) (L : KeyLaws first) (keys : List K) (key : K) where
   -- the value at a place that holds the key is the key's
-  get-keyed : (k : ℕ) → keyAt keys key k ≡ key → (xs : List (Entry ℕ)) → listGet (besideFirst first keys key) k xs ≡ listGet first key (keyed keys key xs)
+  pub get-keyed : (k : ℕ) → keyAt keys key k ≡ key → (xs : List (Entry ℕ)) → listGet (besideFirst first keys key) k xs ≡ listGet first key (keyed keys key xs)
   unfolding besideFirst
   get-keyed k e [] = refl
   get-keyed k e (x ∷ xs) =
@@ -48,11 +48,11 @@ module _ {K : Type 0} (first : K → K → Bool) (L : KeyLaws first) (keys : Lis
       ap (λ (y : K). cond (first y here) None (cond (first here y) (listGet (besideFirst first keys key) k xs) (Some (x .value)))) e
       ∙ ap (λ (z : Option ℕ). cond (first key here) None (cond (first here key) z (Some (x .value)))) (get-keyed k e xs)
 
-  at-end : (ks : List K) → keyAt ks key (length ks) ≡ key
+  pub at-end : (ks : List K) → keyAt ks key (length ks) ≡ key
   at-end [] = refl
   at-end (x ∷ xs) = at-end xs
 
-  stands : (sooner : ℕ → ℕ → Bool) (m : Memory) (map : Tree Bool ℕ) (due held : Tree ℕ ℕ) → Stands (placeFirst first keys) sooner m map due held → InBook (length keys) (entries map) → Stands (besideFirst first keys key) sooner m map due held
+  pub stands : (sooner : ℕ → ℕ → Bool) (m : Memory) (map : Tree Bool ℕ) (due held : Tree ℕ ℕ) → Stands (placeFirst first keys) sooner m map due held → InBook (length keys) (entries map) → Stands (besideFirst first keys key) sooner m map due held
   stands sooner m map due held H B = record {
     whole = H .whole;
     mapTree = record { redBlack = H .mapTree .redBlack; sorted = sorted-alike (length keys) (placeFirst first keys) (besideFirst first keys key) (λ p q g h. places-alike K first keys [] key p q g h .0) (entries map) B (H .mapTree .sorted) };
@@ -60,10 +60,10 @@ module _ {K : Type 0} (first : K → K → Bool) (L : KeyLaws first) (keys : Lis
     heldHeap = H .heldHeap;
   }
 
-  ordered : KeyOrder (besideFirst first keys key)
+  pub ordered : KeyOrder (besideFirst first keys key)
   ordered = places-ordered K first L keys .1 key
 
-  ways : WaysTo first keys key (length keys)
+  pub ways : WaysTo first keys key (length keys)
   ways = ways-to K first keys key .1
 
   pub get-told : {S : Type 0} {P : S → Memory → Type 0} {t : S} {r : Result (Option ℕ) MemoryRefusal} (m : Memory) → Comes P t r (getOf (wayFrom first keys key) m) → Gets-value first keys key P t r m
