@@ -1,7 +1,6 @@
 // The calls of a book.
 ghost use mathlib.Core.Path.{_≡_};
 ghost use mathlib.Core.List.{[]};
-ghost use Prim.Native.Nat.{_≤_};
 ghost use lib.ListN.{length};
 ghost use denote.Ref.{name};
 ghost use Rattle.std.specs.Results.{Cases};
@@ -17,21 +16,6 @@ impl<'a, K: Copy> Book<'a, K> {
         ensures room { λ r. ⌜ bookRoom r ≡ length (now (slots .entry)) ⌝ }
     {
         Book { slots, len: 0 }
-    }
-
-    // How many keys the book holds.
-    pub fn count(&self) -> usize
-        ensures { λ r. ⌜ r ≡ length (bookKeys (now (self .entry))) ⌝ }
-    {
-        self.len
-    }
-
-    // How many keys the book can hold.
-    pub fn room(&self) -> usize
-        ensures places { λ r. ⌜ r ≡ bookRoom (now (self .entry)) ⌝ }
-        ensures enough { λ r. ⌜ length (bookKeys (now (self .entry))) ≤ r ⌝ }
-    {
-        self.slots.len()
     }
 
     // Writes the key at the next place and answers that place; refused, nothing is written.
