@@ -6,14 +6,14 @@ use Rattle.memory_example.proofs.+advance.Goals as goal
 pub returns-then-steps-eq0 : goal.returns-then-steps-eq0
 returns-then-steps-eq0 g t c = record { runs = λ m h. rw (advance_none c.args.steps m (omega arith)) (record { to = (refl, h) }); alike = search rules }
 
-pub returns-in-err-follow : goal.returns-in-err-follow
-returns-in-err-follow g t c = record {
-  runs = λ m h. rw (advance_more c.args.steps m (omega arith)) (step_exit _ c.from-residual.ensures.1 (c.in-err-follow.ensures.does m h));
+pub returns-in_err-follow : goal.returns-in_err-follow
+returns-in_err-follow g t c = record {
+  runs = λ m h. rw (advance_more c.args.steps m (omega arith)) (step_exit _ c.from_residual.ensures.1 (c.in_err-follow.ensures.does m h));
   alike = search rules;
 }
 
 pub returns : goal.returns
 returns g t c = record {
-  runs = λ m h. rw (advance_more c.args.steps m (omega arith)) (step_ok _ (c.in-ok-follow.ensures.does m h) (λ m1 h1. c.advance.ensures.runs m1 h1));
+  runs = λ m h. rw (advance_more c.args.steps m (omega arith)) (step_ok _ (c.in_ok-follow.ensures.does m h) (λ m1 h1. c.advance.ensures.runs m1 h1));
   alike = search rules;
 }

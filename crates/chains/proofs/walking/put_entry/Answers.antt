@@ -14,8 +14,8 @@ index-requires g c =
     let h : c.find-spot.result.at < length (vec_items c.args.rows.now) = found_at _ _ _ _ _ _ _ c.find-spot.result c.find-spot.ensures c.if-spot.true in
     omega (arith, h, c.args.rows.now.ok.0)
 
-pub index-mut-requires : goal.index-mut-requires
-index-mut-requires g c =
+pub index_mut-requires : goal.index_mut-requires
+index_mut-requires g c =
     let h : c.find-spot.result.at < length (vec_items c.args.rows.now) = found_at _ _ _ _ _ _ _ c.find-spot.result c.find-spot.ensures c.if-spot.true in
     omega (arith, h, c.args.rows.now.ok.0)
 
@@ -25,8 +25,8 @@ index-last-requires g c =
     found_prev _ _ _ _ _ _ _ _ c.find-spot.result c.find-spot.ensures c.if-spot-eq0.false (below_of _ _ _ _ c.requires.chained.0) in
     omega (arith, h, c.requires.taken)
 
-pub index-mut-requires-3 : goal.index-mut-requires-3
-index-mut-requires-3 g c =
+pub index_mut-requires-3 : goal.index_mut-requires-3
+index_mut-requires-3 g c =
     let h : c.find-spot.result.prev < c.args.used =
     found_prev _ _ _ _ _ _ _ _ c.find-spot.result c.find-spot.ensures c.if-spot-eq0.false (below_of _ _ _ _ c.requires.chained.0) in
     omega (arith, h, c.requires.taken)

@@ -15,8 +15,8 @@ index-row-requires g c =
     let h : c.loop-left.at < length (vec_items c.loop-left.rows) = done_at _ _ _ _ _ _ _ _ _ _ _ _ c.loop-left.invariant.0 c.loop-left.invariant.2 c.loop-left.invariant.3 c.loop-left-test.true in
     omega (arith, h, c.loop-left.rows.ok.0)
 
-pub index-mut-requires : goal.index-mut-requires
-index-mut-requires g c =
+pub index_mut-requires : goal.index_mut-requires
+index_mut-requires g c =
     let h : c.loop-left.at < length (vec_items c.loop-left.rows) = done_at _ _ _ _ _ _ _ _ _ _ _ _ c.loop-left.invariant.0 c.loop-left.invariant.2 c.loop-left.invariant.3 c.loop-left-test.true in
     omega (arith, h, c.loop-left.rows.ok.0)
 
@@ -34,7 +34,7 @@ loop-left-preserved g c =
     let x = pos c.args.x in
     let t : Turn pos r f x row new =
     elim c.if-row-field.branch [
-      | then-row-field+then-not-before w ↦ turn_hit pos r f x row new w.rename-value-row.result w.if-row-field.true w.if-not-before.ensures w.rename-value-row.ensures w.row-is
+      | then-row-field+then-not-before w ↦ turn_hit pos r f x row new w.rename_value-row.result w.if-row-field.true w.if-not-before.ensures w.rename_value-row.ensures w.row-is
       | else-row-field w ↦
           elim w.else-row-field.branch [
             | else-row-field-via-then-row-field+else-not-before u ↦ turn_late pos r f x row new u.if-not-before.ensures w.row-is

@@ -4,8 +4,8 @@ use Rattle.linked_lists.specs.Chain.{next_at, blank}
 use Rattle.linked_lists.specs.declared.row.Row.{Row}
 use Rattle.relabelled.proofs.links.link.Goals as goal
 
-pub overflow-cast-b : goal.overflow-cast-b
-overflow-cast-b c =
+pub overflow_cast-b : goal.overflow_cast-b
+overflow_cast-b c =
     let within : c.args.a < length c.args.rows.now.items = let e = c.args.rows.now.ok.0 in let h = c.requires.here in omega arith in
     let e : next_at c.args.rows.now.items c.args.a ≡ Some c.in-Some.b =
     sym (ap (λ (r : Row). r.next) (get_or_read _ _ _ within c.index-here.ensures blank)) ∙ c.in-Some.is in

@@ -6,18 +6,18 @@ use Rattle.relabelled.proofs.links.spread.Goals as goal
 pub loop-j-init : goal.loop-j-init
 loop-j-init c = progress_start _ _ c.args.range c.requires.fit
 
-pub overflow-cast-step-in-loop-j-3 : goal.overflow-cast-step-in-loop-j-3
-overflow-cast-step-in-loop-j-3 c =
+pub overflow_cast-step-in-loop-j-3 : goal.overflow_cast-step-in-loop-j-3
+overflow_cast-step-in-loop-j-3 c =
     let v = spread_inside c.args.range.size c.args.range.crowd c.loop-j.j (omega arith) c.requires.fit.fits in
     let t = c.requires.fit.top in search rules
 
-pub overflow-add-range : goal.overflow-add-range
-overflow-add-range c =
+pub overflow_add-range : goal.overflow_add-range
+overflow_add-range c =
     let v = spread_inside c.args.range.size c.args.range.crowd c.loop-j.j (omega arith) c.requires.fit.fits in
     let t = c.requires.fit.top in search rules
 
-pub index-mut-requires : goal.index-mut-requires
-index-mut-requires c =
+pub index_mut-requires : goal.index_mut-requires
+index_mut-requires c =
     let k = progress_known _ _ _ _ _ _ _ _ _ c.loop-j.invariant c.in-Some.is in
     let l = c.loop-j.invariant.long in
     let a = c.loop-j.rows.ok.0 in
@@ -36,7 +36,7 @@ pub loop-j-preserved : goal.loop-j-preserved
 loop-j-preserved c =
     let room : c.args.n ≤ length c.args.rows.now.items = let b = c.args.rows.now.ok.0 in omega (arith, c.requires.room) in
     progress_code _ _ _ _ _ _ _ c.in-Some.x c.loop-j.next c.loop-j.invariant c.in-Some.is c.loop-j-test.true room
-    c.index-mut.result.now c.index.result.now c.index-mut.ensures.value c.index.ensures
+    c.index_mut.result.now c.index.result.now c.index_mut.ensures.value c.index.ensures
 
 pub returns-after-loop-j : goal.returns-after-loop-j
 returns-after-loop-j c =
@@ -50,14 +50,14 @@ returns-after-loop-j c =
       len = omega arith;
     }
 
-pub returns-in-default : goal.returns-in-default
-returns-in-default c =
+pub returns-in_default : goal.returns-in_default
+returns-in_default c =
     let l = c.loop-j.invariant.long in
     let a = c.loop-j.rows.ok.0 in
     let b = c.args.rows.now.ok.0 in
     record {
       next = c.loop-j.invariant.nexts;
       prev = c.loop-j.invariant.prevs;
-      labels = progress_labels _ _ _ _ _ _ _ _ c.loop-j.invariant (inr c.in-default.is);
+      labels = progress_labels _ _ _ _ _ _ _ _ c.loop-j.invariant (inr c.in_default.is);
       len = omega arith;
     }

@@ -4,11 +4,11 @@ use Rattle.linked_lists.proofs.Relabel.{code_below, near, far_labels}
 use Rattle.linked_lists.proofs.Rows.{label_of}
 use Rattle.relabelled.proofs.place.place.Goals as goal
 
-pub overflow-sub-gap : goal.overflow-sub-gap
-overflow-sub-gap c =
+pub overflow_sub-gap : goal.overflow_sub-gap
+overflow_sub-gap c =
     let low : c.args.a < vec_len c.args.rows.now = omega (arith, c.requires.known, c.requires.room) in
     let l = label_of _ _ _ _ low c.args.rows.now.ok.0 c.index.ensures in
-    let u = code_below _ _ _ _ c.requires.chain c.requires.known c.requires.room c.args.rows.now.ok.0 _ _ l c.end-of.ensures in
+    let u = code_below _ _ _ _ c.requires.chain c.requires.known c.requires.room c.args.rows.now.ok.0 _ _ l c.end_of.ensures in
     omega arith
 
 pub link-requires : goal.link-requires
@@ -24,7 +24,7 @@ pub returns-then-gap-ge2 : goal.returns-then-gap-ge2
 returns-then-gap-ge2 c =
     let low : c.args.a < vec_len c.args.rows.now = omega (arith, c.requires.known, c.requires.room) in
     let l = label_of _ _ _ _ low c.args.rows.now.ok.0 c.index.ensures in
-    let q = near _ _ _ _ c.requires.chain c.requires.known c.requires.room c.args.rows.now.ok.0 _ _ _ c.link.ensures l c.end-of.ensures c.if-gap-ge2.true in
+    let q = near _ _ _ _ c.requires.chain c.requires.known c.requires.room c.args.rows.now.ok.0 _ _ _ c.link.ensures l c.end_of.ensures c.if-gap-ge2.true in
     let g = q.long in
     let x = c.link.new.rows.ok.0 in
     let y = c.args.rows.now.ok.0 in
@@ -37,6 +37,6 @@ returns-else-gap-ge2 c =
     record {
       chain = c.relabel.ensures.chain;
       items = c.relabel.ensures.items;
-      labels = far_labels _ _ _ _ c.requires.chain c.requires.known c.requires.room c.args.rows.now.ok.0 _ _ _ l c.end-of.ensures c.if-gap-ge2.false c.relabel.ensures.labels;
+      labels = far_labels _ _ _ _ c.requires.chain c.requires.known c.requires.room c.args.rows.now.ok.0 _ _ _ l c.end_of.ensures c.if-gap-ge2.false c.relabel.ensures.labels;
       len = c.relabel.ensures.len;
     }

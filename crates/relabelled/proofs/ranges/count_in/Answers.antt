@@ -9,8 +9,8 @@ loop-next-init c = tail_start _ _ _ _ c.args.first c.requires.chain c.requires.k
 pub index-row-requires : goal.index-row-requires
 index-row-requires c = let i = tail_in _ _ _ _ _ _ _ c.loop-next.invariant c.in-Some.is in omega (arith, c.requires.room)
 
-pub overflow-add-k : goal.overflow-add-k
-overflow-add-k c = let i = tail_in _ _ _ _ _ _ _ c.loop-next.invariant c.in-Some.is in search rules
+pub overflow_add-k : goal.overflow_add-k
+overflow_add-k c = let i = tail_in _ _ _ _ _ _ _ c.loop-next.invariant c.in-Some.is in search rules
 
 pub loop-next-smaller : goal.loop-next-smaller
 loop-next-smaller c = let i = tail_in _ _ _ _ _ _ _ c.loop-next.invariant c.in-Some.is in omega arith
@@ -31,7 +31,7 @@ returns-then-row-end c =
     let l = label_of _ _ _ _ low c.args.rows.now.ok.0 c.index-row.ensures in
     tail_past _ _ _ _ _ c.in-Some.x (tail_at _ _ _ _ _ _ _ c.loop-next.invariant c.in-Some.is) (omega (arith, c.if-row-end.true))
 
-pub returns-in-default : goal.returns-in-default
-returns-in-default c =
+pub returns-in_default : goal.returns-in_default
+returns-in_default c =
     tail_none _ _ _ _ _
-    (subst (λ (o : Option ℕ). Tail (vec_items c.args.rows.now) c.args.n c.args.base c.args.size c.loop-next.k o) c.in-default.is c.loop-next.invariant)
+    (subst (λ (o : Option ℕ). Tail (vec_items c.args.rows.now) c.args.n c.args.base c.args.size c.loop-next.k o) c.in_default.is c.loop-next.invariant)

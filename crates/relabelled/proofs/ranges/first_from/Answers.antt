@@ -40,10 +40,10 @@ returns-then-index-base c =
       from = c.loop-y.invariant.1;
     }
 
-pub returns-in-default : goal.returns-in-default
-returns-in-default c =
+pub returns-in_default : goal.returns-in_default
+returns-in_default c =
     let low : c.loop-y.x < vec_len c.args.rows.now = omega (arith, c.loop-y.invariant.0, c.requires.room) in
-    let s : prev_at (vec_items c.args.rows.now) c.loop-y.x ≡ None = sym (prev_of _ _ _ _ low c.args.rows.now.ok.0 c.index.ensures) ∙ c.in-default.is in
+    let s : prev_at (vec_items c.args.rows.now) c.loop-y.x ≡ None = sym (prev_of _ _ _ _ low c.args.rows.now.ok.0 c.index.ensures) ∙ c.in_default.is in
     record {
       first = first_at _ _ _ _ c.requires.chain c.loop-y.invariant.0 c.loop-y.invariant.1 (λ y e. let z : ◌≡◌ {A = ℕ} 0 1 = cc in absurd (omega arith));
       known = c.loop-y.invariant.0;

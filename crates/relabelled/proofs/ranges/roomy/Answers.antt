@@ -6,7 +6,7 @@ use Rattle.linked_lists.specs.Ranges.{Around}
 use Rattle.relabelled.proofs.ranges.roomy.Goals as goal
 
 pub loop-i-init : goal.loop-i-init
-loop-i-init c = (omega arith, c.range-at-range.ensures, width_start _ _)
+loop-i-init c = (omega arith, c.range_at-range.ensures, width_start _ _)
 
 pub loop-i-preserved : goal.loop-i-preserved
 loop-i-preserved c =
@@ -14,7 +14,7 @@ loop-i-preserved c =
     let f = c.loop-i.invariant.1.full in
     let r = c.room.ensures ∙ cond-true _ _ _ (lt-ltb c.loop-i.i 32 (omega arith)) in
     let k = c.if-range-room.true in
-    (omega arith, c.range-at-range-in-loop-i.ensures, c.loop-i.invariant.2 ∙ widen_more _ _ _ t (omega arith))
+    (omega arith, c.range_at-range-in-loop-i.ensures, c.loop-i.invariant.2 ∙ widen_more _ _ _ t (omega arith))
 
 pub returns-else-range-room : goal.returns-else-range-room
 returns-else-range-room c =

@@ -3,8 +3,8 @@ use Rattle.chains.proofs.Opened.{opened}
 use Rattle.chain_rows.proofs.Adding.{add_sound}
 use Rattle.chains.proofs.table.ChainTable.add.Goals as goal
 
-pub invariant-of-self : goal.invariant-of-self
-invariant-of-self c =
+pub invariant_of-self : goal.invariant_of-self
+invariant_of-self c =
     let t = c.args.self.now in
     let lm : t.made < length (vec_items t.chains) = omega (arith, c.if-made-len.false, c.len.ensures, t.chains.ok.0) in (
       omega (arith, lm, t.chains.ok.0),

@@ -28,8 +28,8 @@ skip-tail-requires g c =
       known = asked_version t n c.args.c c.args.x A;
     }
 
-pub invariant-of-self : goal.invariant-of-self
-invariant-of-self g c =
+pub invariant_of-self : goal.invariant_of-self
+invariant_of-self g c =
     let t = c.args.self.now in
     let K = is_asked t (length (g.O.VersionOrder.items c.args.order.now)) c.args.c c.args.x c.if-not-answers.ensures in
     let e = chain_is t c.args.c c.index-chain.result.now K.there c.index-chain.ensures in

@@ -2,8 +2,8 @@ use Rattle.std.proofs.Common.{◌<◌, length, vec_items, arith}
 use Rattle.chain_rows.proofs.Adding.{made_sound, fit_are}
 use Rattle.chains.proofs.table.ChainTable.new.Goals as goal
 
-pub invariant-of-result : goal.invariant-of-result
-invariant-of-result c =
+pub invariant_of-result : goal.invariant_of-result
+invariant_of-result c =
     let F = fit_are c.len.result c.len-2.result c.if-not-fit.ensures in
     let f0 = F.0 in let f1 = F.1 in let f2 = F.2 in
     let l : 0 < length (vec_items c.args.chains) = omega (arith, f0, c.len.ensures, c.args.chains.ok.0) in (

@@ -3,8 +3,8 @@ use Rattle.chains.proofs.Opened.{opened}
 use Rattle.chain_rows.proofs.Adding.{open_sound}
 use Rattle.chains.proofs.table.ChainTable.open.Goals as goal
 
-pub invariant-of-self : goal.invariant-of-self
-invariant-of-self c =
+pub invariant_of-self : goal.invariant_of-self
+invariant_of-self c =
     let t = c.args.self.now in (
       t.fits,
       (

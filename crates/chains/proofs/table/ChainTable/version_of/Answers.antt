@@ -13,8 +13,8 @@ returns-then-k-chain c =
     let l = chain_length (vec_items t.rows) (chain_at (vec_items t.chains) c.args.i).head (chain_at (vec_items t.chains) c.args.i).len in
     absurd (omega (arith, k, e, l, c.if-k-chain.true))
 
-pub version-at-requires : goal.version-at-requires
-version-at-requires c =
+pub version_at-requires : goal.version_at-requires
+version_at-requires c =
     let t = c.args.self.now in
     let e = chain_is t c.args.i c.index-chain.result.now c.if-i-self.false c.index-chain.ensures in
     record { within = walkable t c.args.i c.index-chain.result.now t.versions c.if-i-self.false e refl; inside = c.if-k-chain.false }

@@ -6,8 +6,8 @@ use Rattle.keys.proofs.name.NameKey.new.Goals as goal
 pub loop-i-preserved : goal.loop-i-preserved
 loop-i-preserved c = copied_more c.args.text.now c.loop-i.bytes c.loop-i.i (omega arith) (omega arith) c.loop-i.invariant
 
-pub invariant-of-result : goal.invariant-of-result
-invariant-of-result c = (search rules, (search rules, (copied_blank c.args.text.now c.loop-i.bytes c.loop-i.i (omega arith) c.loop-i.invariant, tt)))
+pub invariant_of-result : goal.invariant_of-result
+invariant_of-result c = (search rules, (search rules, (copied_blank c.args.text.now c.loop-i.bytes c.loop-i.i (omega arith) c.loop-i.invariant, tt)))
 
 pub returns : goal.returns
 returns c = (copied_name c.args.text.now c.loop-i.bytes c.loop-i.i (omega arith) c.loop-i.invariant, (search rules, search rules))

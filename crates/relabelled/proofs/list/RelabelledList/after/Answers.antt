@@ -7,7 +7,7 @@ use Rattle.relabelled.proofs.list.RelabelledList.after.Goals as goal
 pub returns-in-Some : goal.returns-in-Some
 returns-in-Some c =
     record {
-      answer = refused _ _ _ _ (opened c.args.self.now.sound).chain.long _ _ c.after-refusal.ensures c.in-Some.is;
+      answer = refused _ _ _ _ (opened c.args.self.now.sound).chain.long _ _ c.after_refusal.ensures c.in-Some.is;
       items = refl;
       labels = refl;
       limit = refl;
@@ -17,17 +17,17 @@ returns-in-Some c =
 pub place-requires : goal.place-requires
 place-requires c =
     let s = opened c.args.self.now.sound in
-    let g = granted _ _ _ _ s.chain.long _ c.after-refusal.ensures c.in-default.is in
+    let g = granted _ _ _ _ s.chain.long _ c.after_refusal.ensures c.in_default.is in
     let k = g.room in
     let r = s.room in
     let m = s.small in
     let e = c.args.self.now.rows.ok.0 in
     record { chain = s.chain; room = omega arith; known = g.known; few = omega arith }
 
-pub invariant-of-self : goal.invariant-of-self
-invariant-of-self c =
+pub invariant_of-self : goal.invariant_of-self
+invariant_of-self c =
     let s = opened c.args.self.now.sound in
-    let k = granted _ _ _ _ s.chain.long _ c.after-refusal.ensures c.in-default.is in
+    let k = granted _ _ _ _ s.chain.long _ c.after_refusal.ensures c.in_default.is in
     let x = c.args.self.now.rows.ok.0 in
     let y = c.place.new.rows.ok.0 in
     let z = c.place.ensures.len in
@@ -37,5 +37,5 @@ invariant-of-self c =
 pub returns : goal.returns
 returns c =
     let s = opened c.args.self.now.sound in
-    let k = granted _ _ _ _ s.chain.long _ c.after-refusal.ensures c.in-default.is in
+    let k = granted _ _ _ _ s.chain.long _ c.after_refusal.ensures c.in_default.is in
     record { answer = k.answer; items = c.place.ensures.items; labels = c.place.ensures.labels; limit = refl; refused = tt }

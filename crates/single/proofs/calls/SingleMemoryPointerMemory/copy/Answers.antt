@@ -8,8 +8,8 @@ pub returns-then-from-ge40 : goal.returns-then-from-ge40
 unfolding move_of
 returns-then-from-ge40 g c = search rules
 
-pub invariant-of-self : goal.invariant-of-self
-invariant-of-self g c =
+pub invariant_of-self : goal.invariant_of-self
+invariant_of-self g c =
     let s = c.args.self.now in
     (s.few, (s.roomy, (s.spent, (s.rooted, (all_set s.made s.regs c.args.reg _ s.held (reg_below s c.args.from), (s.linked, (s.two, (s.named, tt))))))))
 

@@ -9,15 +9,15 @@ pub returns-then-from-ge40 : goal.returns-then-from-ge40
 unfolding follow_of
 returns-then-from-ge40 g c = search rules
 
-pub returns-in-default : goal.returns-in-default
+pub returns-in_default : goal.returns-in_default
 unfolding follow_of
-returns-in-default g c = search rules
+returns-in_default g c = search rules
 
 pub index-requires : goal.index-requires
 index-requires g c = held_in c.args.self.now c.args.from _ (search rules)
 
-pub invariant-of-self : goal.invariant-of-self
-invariant-of-self g c =
+pub invariant_of-self : goal.invariant_of-self
+invariant_of-self g c =
     let s = c.args.self.now in
     let r = c.index.result.now in
     let ok = row_below s _ r c.index.ensures (held_low s c.args.from _ (search rules)) in

@@ -11,9 +11,9 @@ pub returns-then-from-ge40 : goal.returns-then-from-ge40
 unfolding link_of
 returns-then-from-ge40 g c = search rules
 
-pub returns-in-default : goal.returns-in-default
+pub returns-in_default : goal.returns-in_default
 unfolding link_of
-returns-in-default g c = search rules
+returns-in_default g c = search rules
 
 pub returns-then-self : goal.returns-then-self
 returns-then-self g c = record {
@@ -41,8 +41,8 @@ returns-then-crowded g c = record {
   foreign = λ e. untrue e;
 }
 
-pub index-mut-requires : goal.index-mut-requires
-index-mut-requires g c = held_in c.args.self.now c.args.from _ (search rules)
+pub index_mut-requires : goal.index_mut-requires
+index_mut-requires g c = held_in c.args.self.now c.args.from _ (search rules)
 
 pub raise-requires : goal.raise-requires
 raise-requires g c =
@@ -65,8 +65,8 @@ lower-requires g c =
     raised_in _ s.made _ _ new (get_or r.links c.args.side None) c.raise.ensures c.raise.new.rows.ok.0
     (long_set s _ (row_linked c.args.side new r)) (all_at s.made r.links (row_below s _ r c.index.ensures l) c.args.side)
 
-pub invariant-of-self : goal.invariant-of-self
-invariant-of-self g c =
+pub invariant_of-self : goal.invariant_of-self
+invariant_of-self g c =
     let s = c.args.self.now in
     let r = c.index.result.now in
     let old = get_or r.links c.args.side None in

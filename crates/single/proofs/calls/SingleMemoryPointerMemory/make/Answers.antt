@@ -14,8 +14,8 @@ pub returns-then-k-self : goal.returns-then-k-self
 unfolding make_of
 returns-then-k-self g c = search rules
 
-pub invariant-of-self : goal.invariant-of-self
-invariant-of-self g c =
+pub invariant_of-self : goal.invariant_of-self
+invariant_of-self g c =
     let s = c.args.self.now in
     let n = s.made in
     let room : n < length (vec_items s.rows) = search rules in

@@ -40,8 +40,8 @@ pub lower-requires : goal.lower-requires
 lower-requires g c = let s = c.args.self.now in
     raised_in _ s.made (vec_items s.rows) _ (get_or s.regs c.args.reg None) (get_or s.roots c.args.root None) c.raise.ensures c.raise.new.rows.ok.0 (table_long s) (root_below s c.args.root)
 
-pub invariant-of-self : goal.invariant-of-self
-invariant-of-self g c =
+pub invariant_of-self : goal.invariant_of-self
+invariant_of-self g c =
     let s = c.args.self.now in
     let old = get_or s.roots c.args.root None in
     let new = get_or s.regs c.args.reg None in
