@@ -27,11 +27,11 @@ loop-left-preserved g c =
       (within_step _ _ _ _ row q w c.index-row.ensures).1,
       walk_more _ pos (vec_items c.args.rows.now) c.loop-left.at c.loop-left.left f p row a b _ q w c.index-row.ensures
           (elim c.if-row-field.branch [
-            | then-row-field+then-not-before t ↦ hit pos f p row a b t.if-row-field.true t.if-not-before.ensures t.value_is
+            | then-row-field+then-not-before t ↦ hit pos f p row a b t.if-row-field.true t.if-not-before.ensures t.value-is
             | else-row-field t ↦
                 elim t.else-row-field.branch [
-                  | else-row-field-via-then-row-field+else-not-before u ↦ late pos f p row a b u.if-not-before.ensures t.value_is
-                  | else-row-field-via-else-row-field u ↦ other pos f p row a b u.if-row-field.false t.value_is
+                  | else-row-field-via-then-row-field+else-not-before u ↦ late pos f p row a b u.if-not-before.ensures t.value-is
+                  | else-row-field-via-else-row-field u ↦ other pos f p row a b u.if-row-field.false t.value-is
                 ]
           ])
           c.loop-left.invariant.1,

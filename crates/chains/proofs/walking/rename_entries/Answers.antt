@@ -42,7 +42,7 @@ loop-left-preserved g c =
           ]
     ] in (
       done_more pos _ _ r f x _ (vec_items c.loop-left.rows) c.args.head c.args.len c.loop-left.at c.loop-left.left row new c.loop-left.invariant.0 c.loop-left.invariant.2 c.loop-left.invariant.3
-          c.loop-left-test.true c.index-row.ensures t.ver_is t.fld_is t.next_is t.val-is,
+          c.loop-left-test.true c.index-row.ensures t.ver_is t.fld_is t.next_is t.val_is,
       c.loop-left.invariant.1,
       c.loop-left.invariant.2,
       c.loop-left.invariant.3,

@@ -35,25 +35,16 @@ invariant_of-self g c =
     let e = chain_is t c.args.c c.index-chain.result.now K.there c.index-chain.ensures in
     let A = c.skip-at.ensures in
     let B = c.skip-tail.ensures in
-    let lm : t.made < length (vec_items t.chains) = omega (arith, c.if-made-len.false, c.len.ensures, t.chains.ok.0) in (
-      omega (arith, lm, t.chains.ok.0),
-      (
-        t.taken,
-        (
-          t.few,
-          (
-            t.many,
-            (
-              ∣ cut_sound (vec_items t.chains) (vec_items t.rows) t.made t.used t.versions c.args.c c.skip-at.result.1 c.skip-tail.result.1 _ _ (opened t) K.there lm
-                  (subst (λ (r : Chain). c.skip-at.result.1 ≤ r.len) e A.short) B.short
-                  (ap (λ (r : Chain). r.head) e) (ap (λ (r : Chain). r.len - c.skip-at.result.1) e)
-                  (tail_is _ _ _ _ _ _ _ _ _ A B ∙ ap (λ (r : Chain). node (vec_items t.rows) r.head (r.len - c.skip-tail.result.1)) e) refl ∣₁,
-              tt,
-            ),
-          ),
-        ),
-      ),
-    )
+    let lm : t.made < length (vec_items t.chains) = omega (arith, c.if-made-len.false, c.len.ensures, t.chains.ok.0) in record {
+      fits = omega (arith, lm, t.chains.ok.0);
+      taken = t.taken;
+      few = t.few;
+      many = t.many;
+      sound = ∣ cut_sound (vec_items t.chains) (vec_items t.rows) t.made t.used t.versions c.args.c c.skip-at.result.1 c.skip-tail.result.1 _ _ (opened t) K.there lm
+          (subst (λ (r : Chain). c.skip-at.result.1 ≤ r.len) e A.short) B.short
+          (ap (λ (r : Chain). r.head) e) (ap (λ (r : Chain). r.len - c.skip-at.result.1) e)
+          (tail_is _ _ _ _ _ _ _ _ _ A B ∙ ap (λ (r : Chain). node (vec_items t.rows) r.head (r.len - c.skip-tail.result.1)) e) refl ∣₁;
+    }
 
 pub returns : goal.returns
 returns g c =

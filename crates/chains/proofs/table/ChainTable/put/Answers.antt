@@ -37,26 +37,17 @@ invariant_of-self g c =
     let s = S.2 c.args.i A.there in
     let l = ap (λ (r : Chain). r.len) e in
     let P = c.put_entry-head.ensures in
-    let lg = P.long in (
-      t.fits,
-      (
-        omega (arith, lg, P.fits),
-        (
-          t.few,
-          (
-            omega (arith, lg, t.many),
-            (
-              ∣ put_sound (vec_items t.chains) (vec_items t.rows) (vec_items c.put_entry-head.new.rows) t.made t.used t.versions c.args.i c.put_entry-head.result.1 _ S A.there (made_long t)
-                  (subst (λ (r : Chain). Frame t.used r.head r.len (vec_items t.rows) (vec_items c.put_entry-head.new.rows)) e P.frame)
-                  (subst (λ (z : ℕ). Chained z (t.used + c.put_entry-head.result.1) (vec_items c.put_entry-head.new.rows) c.put_entry-head.result.0 (c.index-chain.result.now.len + c.put_entry-head.result.1)) (sym A.same) P.kept)
-                  (subst (λ (r : Chain). Drawn t.used (vec_items t.rows) r.head r.len (vec_items c.put_entry-head.new.rows) c.put_entry-head.result.0 (c.index-chain.result.now.len + c.put_entry-head.result.1)) e P.drawn)
-                  (omega (arith, s, l)) ∣₁,
-              tt,
-            ),
-          ),
-        ),
-      ),
-    )
+    let lg = P.long in record {
+      fits = t.fits;
+      taken = omega (arith, lg, P.fits);
+      few = t.few;
+      many = omega (arith, lg, t.many);
+      sound = ∣ put_sound (vec_items t.chains) (vec_items t.rows) (vec_items c.put_entry-head.new.rows) t.made t.used t.versions c.args.i c.put_entry-head.result.1 _ S A.there (made_long t)
+          (subst (λ (r : Chain). Frame t.used r.head r.len (vec_items t.rows) (vec_items c.put_entry-head.new.rows)) e P.frame)
+          (subst (λ (z : ℕ). Chained z (t.used + c.put_entry-head.result.1) (vec_items c.put_entry-head.new.rows) c.put_entry-head.result.0 (c.index-chain.result.now.len + c.put_entry-head.result.1)) (sym A.same) P.kept)
+          (subst (λ (r : Chain). Drawn t.used (vec_items t.rows) r.head r.len (vec_items c.put_entry-head.new.rows) c.put_entry-head.result.0 (c.index-chain.result.now.len + c.put_entry-head.result.1)) e P.drawn)
+          (omega (arith, s, l)) ∣₁;
+    }
 
 pub returns : goal.returns
 returns g c =

@@ -25,19 +25,7 @@ pub invariant_of-self : goal.invariant_of-self
 invariant_of-self g c =
     let t = c.args.self.now in
     let P = c.rename_entries.ensures in
-    let lg = P.long in (
-      t.fits,
-      (
-        omega (arith, lg, t.taken),
-        (
-          t.few,
-          (
-            omega (arith, lg, t.many),
-            (∣ map_sound (vec_items t.chains) (vec_items t.rows) (vec_items c.rename_entries.new.rows) t.made t.used t.versions P.shape (opened t) ∣₁, tt),
-          ),
-        ),
-      ),
-    )
+    let lg = P.long in record { fits = t.fits; taken = omega (arith, lg, t.taken); few = t.few; many = omega (arith, lg, t.many); sound = ∣ map_sound (vec_items t.chains) (vec_items t.rows) (vec_items c.rename_entries.new.rows) t.made t.used t.versions P.shape (opened t) ∣₁ }
 
 pub returns : goal.returns
 returns g c =

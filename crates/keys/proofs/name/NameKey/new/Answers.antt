@@ -7,7 +7,7 @@ pub loop-i-preserved : goal.loop-i-preserved
 loop-i-preserved c = copied_more c.args.text.now c.loop-i.bytes c.loop-i.i (omega arith) (omega arith) c.loop-i.invariant
 
 pub invariant_of-result : goal.invariant_of-result
-invariant_of-result c = (search rules, (search rules, (copied_blank c.args.text.now c.loop-i.bytes c.loop-i.i (omega arith) c.loop-i.invariant, tt)))
+invariant_of-result c = record { some = search rules; few = search rules; blank = copied_blank c.args.text.now c.loop-i.bytes c.loop-i.i (omega arith) c.loop-i.invariant }
 
 pub returns : goal.returns
 returns c = (copied_name c.args.text.now c.loop-i.bytes c.loop-i.i (omega arith) c.loop-i.invariant, (search rules, search rules))

@@ -32,7 +32,7 @@ invariant_of-self c =
     let y = c.place.new.rows.ok.0 in
     let z = c.place.ensures.len in
     let g : length (vec_items c.place.new.rows) ≡ length (vec_items c.args.self.now.rows) = omega arith in
-    (∣ after_sound s (vec_items c.place.new.rows) k.room g c.place.ensures.chain ∣₁, tt)
+    record { sound = ∣ after_sound s (vec_items c.place.new.rows) k.room g c.place.ensures.chain ∣₁ }
 
 pub returns : goal.returns
 returns c =

@@ -11,7 +11,7 @@ returns-then-from-ge40 g c = search rules
 pub invariant_of-self : goal.invariant_of-self
 invariant_of-self g c =
     let s = c.args.self.now in
-    (s.few, (s.roomy, (s.spent, (s.rooted, (all_set s.made s.regs c.args.reg _ s.held (reg_below s c.args.from), (s.linked, (s.two, (s.named, tt))))))))
+    record { few = s.few; roomy = s.roomy; spent = s.spent; rooted = s.rooted; held = all_set s.made s.regs c.args.reg _ s.held (reg_below s c.args.from); linked = s.linked; two = s.two; named = s.named }
 
 pub returns : goal.returns
 unfolding move_of

@@ -21,7 +21,7 @@ invariant_of-self g c =
     let s = c.args.self.now in
     let r = c.index.result.now in
     let ok = row_below s _ r c.index.ensures (held_low s c.args.from _ (search rules)) in
-    (s.few, (s.roomy, (s.spent, (s.rooted, (all_set s.made s.regs c.args.reg _ s.held (all_at s.made r.links ok c.args.side), (s.linked, (s.two, (s.named, tt))))))))
+    record { few = s.few; roomy = s.roomy; spent = s.spent; rooted = s.rooted; held = all_set s.made s.regs c.args.reg _ s.held (all_at s.made r.links ok c.args.side); linked = s.linked; two = s.two; named = s.named }
 
 pub returns : goal.returns
 returns g c =

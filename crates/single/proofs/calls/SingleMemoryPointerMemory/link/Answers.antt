@@ -78,7 +78,7 @@ invariant_of-self g c =
     let len = length_linked (vec_items s.rows) _ _ (row_linked c.args.side new r) old new e in
     let F : Fine s.made (vec_items c.lower.new.rows) = link_fine (vec_items s.rows) _ s.made _ (row_linked c.args.side new r) old new (fine s) l (table_long s)
     (all_set s.made r.links c.args.side new ok (reg_below s c.args.reg)) (length-set r.links c.args.side new ∙ row_two s _ r c.index.ensures l) (row_blank s _ r c.index.ensures l) (all_at s.made r.links ok c.args.side) (reg_below s c.args.reg) q e in
-    (s.few, (search rules, (omega arith, (s.rooted, (s.held, (F.linked, (F.two, (F.named, tt))))))))
+    record { few = s.few; roomy = search rules; spent = omega arith; rooted = s.rooted; held = s.held; linked = F.linked; two = F.two; named = F.named }
 
 pub returns : goal.returns
 returns g c =

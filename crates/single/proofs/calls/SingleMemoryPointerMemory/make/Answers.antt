@@ -19,22 +19,7 @@ invariant_of-self g c =
     let s = c.args.self.now in
     let n = s.made in
     let room : n < length (vec_items s.rows) = search rules in
-    let F = born_fine n (vec_items s.rows) c.new.result c.args.key c.args.value c.args.mark c.new.ensures room (fine s) in (
-      omega arith,
-      (
-        search rules,
-        (
-          s.spent,
-          (
-            all_more n (n + 1) s.roots (omega arith) s.rooted,
-            (
-              all_set (n + 1) s.regs c.args.reg _ (all_more n (n + 1) s.regs (omega arith) s.held) (lt_true n (n + 1) (omega arith)),
-              (F.linked, (F.two, (F.named, tt))),
-            ),
-          ),
-        ),
-      ),
-    )
+    let F = born_fine n (vec_items s.rows) c.new.result c.args.key c.args.value c.args.mark c.new.ensures room (fine s) in record { few = omega arith; roomy = search rules; spent = s.spent; rooted = all_more n (n + 1) s.roots (omega arith) s.rooted; held = all_set (n + 1) s.regs c.args.reg _ (all_more n (n + 1) s.regs (omega arith) s.held) (lt_true n (n + 1) (omega arith)); linked = F.linked; two = F.two; named = F.named }
 
 pub returns : goal.returns
 returns g c =

@@ -49,7 +49,7 @@ invariant_of-self g c =
     let e = c.lower.ensures ∙ ap (λ xs. lowered xs old) c.raise.ensures in
     let len = length_renamed (vec_items s.rows) _ old new e in
     let F : Fine s.made (vec_items c.lower.new.rows) = subst (Fine s.made) (sym e) (fine_renamed s.made (vec_items s.rows) old new (table_long s) (root_below s c.args.root) (reg_below s c.args.reg) q (fine s)) in
-    (s.few, (search rules, (omega arith, (all_set s.made s.roots c.args.root _ s.rooted (reg_below s c.args.reg), (s.held, (F.linked, (F.two, (F.named, tt))))))))
+    record { few = s.few; roomy = search rules; spent = omega arith; rooted = all_set s.made s.roots c.args.root _ s.rooted (reg_below s c.args.reg); held = s.held; linked = F.linked; two = F.two; named = F.named }
 
 pub returns : goal.returns
 returns g c =
