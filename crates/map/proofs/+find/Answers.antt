@@ -12,20 +12,20 @@ use Rattle.map.proofs.+find.Goals as goal
 pub returns-then-d-ge25 : goal.returns-then-d-ge25
 returns-then-d-ge25 g t c m h = find_out (way_from g.K.Key.first (book_keys c.args.book.now) c.args.key) c.args.d m (omega arith)
 
-pub returns-in-err-is-nil : goal.returns-in-err-is-nil
-returns-in-err-is-nil g t c m h = find_level_lem (way_from g.K.Key.first (book_keys c.args.book.now) c.args.key) c.args.d m (omega arith) (step_exit _ c.from-residual.ensures.1 (c.in-err-is-nil.ensures.does m h))
+pub returns-in_err-is_nil : goal.returns-in_err-is_nil
+returns-in_err-is_nil g t c m h = find_level_lem (way_from g.K.Key.first (book_keys c.args.book.now) c.args.key) c.args.d m (omega arith) (step_exit _ c.from_residual.ensures.1 (c.in_err-is_nil.ensures.does m h))
 
 pub returns-then-branch : goal.returns-then-branch
-returns-then-branch g t c m h = find_level_lem (way_from g.K.Key.first (book_keys c.args.book.now) c.args.key) c.args.d m (omega arith) (step_ok _ (c.in-ok-is-nil.ensures.does m h) (λ m1 p1. on_true _ _ _ c.if-branch.true (record { to = (refl, p1) })))
+returns-then-branch g t c m h = find_level_lem (way_from g.K.Key.first (book_keys c.args.book.now) c.args.key) c.args.d m (omega arith) (step_ok _ (c.in_ok-is_nil.ensures.does m h) (λ m1 p1. on_true _ _ _ c.if-branch.true (record { to = (refl, p1) })))
 
-pub returns-in-err-here : goal.returns-in-err-here
-returns-in-err-here g t c m h = find_level_lem (way_from g.K.Key.first (book_keys c.args.book.now) c.args.key) c.args.d m (omega arith) (step_ok _ (c.in-ok-is-nil.ensures.does m h) (λ m1 p1. on_false _ _ _ c.if-branch.false (step_exit _ c.from-residual-in-err-here.ensures.1 (c.in-err-here.ensures.does m1 p1))))
+pub returns-in_err-here : goal.returns-in_err-here
+returns-in_err-here g t c m h = find_level_lem (way_from g.K.Key.first (book_keys c.args.book.now) c.args.key) c.args.d m (omega arith) (step_ok _ (c.in_ok-is_nil.ensures.does m h) (λ m1 p1. on_false _ _ _ c.if-branch.false (step_exit _ c.from_residual-in_err-here.ensures.1 (c.in_err-here.ensures.does m1 p1))))
 
-pub returns-in-default : goal.returns-in-default
-returns-in-default g t c m h = find_level_lem (way_from g.K.Key.first (book_keys c.args.book.now) c.args.key) c.args.d m (omega arith) (step_ok _ (c.in-ok-is-nil.ensures.does m h) (λ m1 p1. on_false _ _ _ c.if-branch.false (step_ok _ (c.in-ok-here.ensures.does m1 p1) (λ m2 p2. at_key _ _ _ (sym c.way.ensures ∙ c.in-default.is) (record { to = (refl, p2) })))))
+pub returns-in_default : goal.returns-in_default
+returns-in_default g t c m h = find_level_lem (way_from g.K.Key.first (book_keys c.args.book.now) c.args.key) c.args.d m (omega arith) (step_ok _ (c.in_ok-is_nil.ensures.does m h) (λ m1 p1. on_false _ _ _ c.if-branch.false (step_ok _ (c.in_ok-here.ensures.does m1 p1) (λ m2 p2. at_key _ _ _ (sym c.way.ensures ∙ c.in_default.is) (record { to = (refl, p2) })))))
 
-pub returns-in-err-follow : goal.returns-in-err-follow
-returns-in-err-follow g t c m h = find_level_lem (way_from g.K.Key.first (book_keys c.args.book.now) c.args.key) c.args.d m (omega arith) (step_ok _ (c.in-ok-is-nil.ensures.does m h) (λ m1 p1. on_false _ _ _ c.if-branch.false (step_ok _ (c.in-ok-here.ensures.does m1 p1) (λ m2 p2. at_side _ _ _ (sym c.way.ensures ∙ c.in-Some.is) (step_exit _ c.from-residual-in-err-follow.ensures.1 (via_call (λ n. follow_of c.args.d n (suc c.args.d)) c.side-number-side.ensures (via_call (λ n. follow_of c.args.d c.side-number-side.result n) (next c.args.d) c.in-err-follow.ensures.does) m2 p2))))))
+pub returns-in_err-follow : goal.returns-in_err-follow
+returns-in_err-follow g t c m h = find_level_lem (way_from g.K.Key.first (book_keys c.args.book.now) c.args.key) c.args.d m (omega arith) (step_ok _ (c.in_ok-is_nil.ensures.does m h) (λ m1 p1. on_false _ _ _ c.if-branch.false (step_ok _ (c.in_ok-here.ensures.does m1 p1) (λ m2 p2. at_side _ _ _ (sym c.way.ensures ∙ c.in-Some.is) (step_exit _ c.from_residual-in_err-follow.ensures.1 (via_call (λ n. follow_of c.args.d n (suc c.args.d)) c.side_number-side.ensures (via_call (λ n. follow_of c.args.d c.side_number-side.result n) (next c.args.d) c.in_err-follow.ensures.does) m2 p2))))))
 
 pub returns : goal.returns
-returns g t c m h = find_level_lem (way_from g.K.Key.first (book_keys c.args.book.now) c.args.key) c.args.d m (omega arith) (step_ok _ (c.in-ok-is-nil.ensures.does m h) (λ m1 p1. on_false _ _ _ c.if-branch.false (step_ok _ (c.in-ok-here.ensures.does m1 p1) (λ m2 p2. at_side _ _ _ (sym c.way.ensures ∙ c.in-Some.is) (step_ok _ (via_call (λ n. follow_of c.args.d n (suc c.args.d)) c.side-number-side.ensures (via_call (λ n. follow_of c.args.d c.side-number-side.result n) (next c.args.d) c.in-ok-follow.ensures.does) m2 p2) (λ m3 p3. via_run (λ n. find_of (way_from g.K.Key.first (book_keys c.args.book.now) c.args.key) (25 - n) n) (next c.args.d) c.find.ensures m3 p3))))))
+returns g t c m h = find_level_lem (way_from g.K.Key.first (book_keys c.args.book.now) c.args.key) c.args.d m (omega arith) (step_ok _ (c.in_ok-is_nil.ensures.does m h) (λ m1 p1. on_false _ _ _ c.if-branch.false (step_ok _ (c.in_ok-here.ensures.does m1 p1) (λ m2 p2. at_side _ _ _ (sym c.way.ensures ∙ c.in-Some.is) (step_ok _ (via_call (λ n. follow_of c.args.d n (suc c.args.d)) c.side_number-side.ensures (via_call (λ n. follow_of c.args.d c.side_number-side.result n) (next c.args.d) c.in_ok-follow.ensures.does) m2 p2) (λ m3 p3. via_run (λ n. find_of (way_from g.K.Key.first (book_keys c.args.book.now) c.args.key) (25 - n) n) (next c.args.d) c.find.ensures m3 p3))))))

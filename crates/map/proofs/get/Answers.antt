@@ -4,18 +4,18 @@ use Rattle.map.proofs.Lookups.{not_found, found}
 use Rattle.map_steps.specs.Find.{get_of}
 use Rattle.map.proofs.get.Goals as goal
 
-pub returns-in-err-reg : goal.returns-in-err-reg
+pub returns-in_err-reg : goal.returns-in_err-reg
 unfolding get_of
-returns-in-err-reg g c m h = run_exit _ c.from-residual.ensures.1 (c.in-err-reg.ensures m h)
+returns-in_err-reg g c m h = run_exit _ c.from_residual.ensures.1 (c.in_err-reg.ensures m h)
 
-pub returns-in-default : goal.returns-in-default
+pub returns-in_default : goal.returns-in_default
 unfolding get_of
-returns-in-default g c m h = run_ok _ (c.in-ok-reg.ensures m h) (λ m1 p1. not_found _ _ _ c.in-default.is (record { to = (refl, p1) }))
+returns-in_default g c m h = run_ok _ (c.in_ok-reg.ensures m h) (λ m1 p1. not_found _ _ _ c.in_default.is (record { to = (refl, p1) }))
 
-pub returns-in-err-value : goal.returns-in-err-value
+pub returns-in_err-value : goal.returns-in_err-value
 unfolding get_of
-returns-in-err-value g c m h = run_ok _ (c.in-ok-reg.ensures m h) (λ m1 p1. found _ _ _ c.in-Some.is (step_exit _ c.from-residual-in-err-value.ensures.1 (c.in-err-value.ensures.does m1 p1)))
+returns-in_err-value g c m h = run_ok _ (c.in_ok-reg.ensures m h) (λ m1 p1. found _ _ _ c.in-Some.is (step_exit _ c.from_residual-in_err-value.ensures.1 (c.in_err-value.ensures.does m1 p1)))
 
 pub returns : goal.returns
 unfolding get_of
-returns g c m h = run_ok _ (c.in-ok-reg.ensures m h) (λ m1 p1. found _ _ _ c.in-Some.is (step_ok _ (c.in-ok-value.ensures.does m1 p1) (λ m2 p2. record { to = (refl, p2) })))
+returns g c m h = run_ok _ (c.in_ok-reg.ensures m h) (λ m1 p1. found _ _ _ c.in-Some.is (step_ok _ (c.in_ok-value.ensures.does m1 p1) (λ m2 p2. record { to = (refl, p2) })))

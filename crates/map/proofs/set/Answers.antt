@@ -4,18 +4,18 @@ use Rattle.map.proofs.Lookups.{not_found, found}
 use Rattle.map_steps.specs.Find.{set_of}
 use Rattle.map.proofs.set.Goals as goal
 
-pub returns-in-err-reg : goal.returns-in-err-reg
+pub returns-in_err-reg : goal.returns-in_err-reg
 unfolding set_of
-returns-in-err-reg g c m h = run_exit _ c.from-residual.ensures.1 (c.in-err-reg.ensures m h)
+returns-in_err-reg g c m h = run_exit _ c.from_residual.ensures.1 (c.in_err-reg.ensures m h)
 
-pub returns-in-default : goal.returns-in-default
+pub returns-in_default : goal.returns-in_default
 unfolding set_of
-returns-in-default g c m h = run_ok _ (c.in-ok-reg.ensures m h) (λ m1 p1. not_found _ _ _ c.in-default.is (record { to = (refl, p1) }))
+returns-in_default g c m h = run_ok _ (c.in_ok-reg.ensures m h) (λ m1 p1. not_found _ _ _ c.in_default.is (record { to = (refl, p1) }))
 
-pub returns-in-err-set-value : goal.returns-in-err-set-value
+pub returns-in_err-set_value : goal.returns-in_err-set_value
 unfolding set_of
-returns-in-err-set-value g c m h = run_ok _ (c.in-ok-reg.ensures m h) (λ m1 p1. found _ _ _ c.in-Some.is (run_exit _ c.from-residual-in-err-set-value.ensures.1 (c.in-err-set-value.ensures m1 p1)))
+returns-in_err-set_value g c m h = run_ok _ (c.in_ok-reg.ensures m h) (λ m1 p1. found _ _ _ c.in-Some.is (run_exit _ c.from_residual-in_err-set_value.ensures.1 (c.in_err-set_value.ensures m1 p1)))
 
 pub returns : goal.returns
 unfolding set_of
-returns g c m h = run_ok _ (c.in-ok-reg.ensures m h) (λ m1 p1. found _ _ _ c.in-Some.is (run_ok _ (c.in-ok-set-value.ensures m1 p1) (λ m2 p2. record { to = (refl, p2) })))
+returns g c m h = run_ok _ (c.in_ok-reg.ensures m h) (λ m1 p1. found _ _ _ c.in-Some.is (run_ok _ (c.in_ok-set_value.ensures m1 p1) (λ m2 p2. record { to = (refl, p2) })))

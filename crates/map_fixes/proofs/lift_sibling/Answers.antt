@@ -5,11 +5,11 @@ use Rattle.map_fixes.proofs.lift_sibling.Goals as goal
 pub returns-then-far : goal.returns-then-far
 returns-then-far g c m h = lift_far c.args.d c.args.right c.args.red c.args.far m c.if-far.true (c.spin.ensures m h)
 
-pub returns-in-err-tilt : goal.returns-in-err-tilt
-returns-in-err-tilt g c m h =
-    lift_near c.args.d c.args.right c.args.red c.args.far m c.if-far.false (run_exit _ c.from-residual.ensures.1 (c.in-err-tilt.ensures m h))
+pub returns-in_err-tilt : goal.returns-in_err-tilt
+returns-in_err-tilt g c m h =
+    lift_near c.args.d c.args.right c.args.red c.args.far m c.if-far.false (run_exit _ c.from_residual.ensures.1 (c.in_err-tilt.ensures m h))
 
 pub returns : goal.returns
 returns g c m h =
-    lift_near c.args.d c.args.right c.args.red c.args.far m c.if-far.false (run_ok _ (c.in-ok-tilt.ensures m h) (λ m1 p1.
+    lift_near c.args.d c.args.right c.args.red c.args.far m c.if-far.false (run_ok _ (c.in_ok-tilt.ensures m h) (λ m1 p1.
     c.spin-2.ensures m1 p1))

@@ -3,19 +3,19 @@ use Rattle.memory.proofs.Rows.{run_ok, run_exit}
 use Rattle.std.proofs.Common.{refl}
 use Rattle.map_fixes.proofs.pass_up.Goals as goal
 
-pub returns-in-err-set-mark : goal.returns-in-err-set-mark
+pub returns-in_err-set_mark : goal.returns-in_err-set_mark
 unfolding pass_up_of
-returns-in-err-set-mark g c m h = run_exit _ c.from-residual.ensures.1 (c.in-err-set-mark.ensures m h)
+returns-in_err-set_mark g c m h = run_exit _ c.from_residual.ensures.1 (c.in_err-set_mark.ensures m h)
 
-pub returns-in-err-set-mark-2 : goal.returns-in-err-set-mark-2
+pub returns-in_err-set_mark-2 : goal.returns-in_err-set_mark-2
 unfolding pass_up_of
-returns-in-err-set-mark-2 g c m h =
-    run_ok _ (c.in-ok-set-mark.ensures m h) (λ m1 p1.
-    run_exit _ c.from-residual-in-err-set-mark-2.ensures.1 (c.in-err-set-mark-2.ensures m1 p1))
+returns-in_err-set_mark-2 g c m h =
+    run_ok _ (c.in_ok-set_mark.ensures m h) (λ m1 p1.
+    run_exit _ c.from_residual-in_err-set_mark-2.ensures.1 (c.in_err-set_mark-2.ensures m1 p1))
 
 pub returns : goal.returns
 unfolding pass_up_of
 returns g c m h =
-    run_ok _ (c.in-ok-set-mark.ensures m h) (λ m1 p1.
-    run_ok _ (c.in-ok-set-mark-2.ensures m1 p1) (λ m2 p2.
+    run_ok _ (c.in_ok-set_mark.ensures m h) (λ m1 p1.
+    run_ok _ (c.in_ok-set_mark-2.ensures m1 p1) (λ m2 p2.
     record { to = (refl, p2) }))

@@ -9,37 +9,37 @@ use Rattle.map_fixes.proofs.regraft.Goals as goal
 pub returns-then-d-ge40 : goal.returns-then-d-ge40
 returns-then-d-ge40 g c m h = refused _ (regraft_out c.args.d c.args.right m (omega arith))
 
-pub returns-in-err-follow : goal.returns-in-err-follow
+pub returns-in_err-follow : goal.returns-in_err-follow
 unfolding regraft_of
-returns-in-err-follow g c m h =
-    step_exit _ c.from-residual.ensures.1 (does_at (λ k. follow_of c.args.d (side c.args.right) k) (add-one c.args.d) (does_at (λ k. follow_of c.args.d k (c.args.d + 1)) c.side-number-side.ensures c.in-err-follow.ensures.does) m h)
+returns-in_err-follow g c m h =
+    step_exit _ c.from_residual.ensures.1 (does_at (λ k. follow_of c.args.d (side c.args.right) k) (add-one c.args.d) (does_at (λ k. follow_of c.args.d k (c.args.d + 1)) c.side_number-side.ensures c.in_err-follow.ensures.does) m h)
 
-pub returns-in-err-link : goal.returns-in-err-link
+pub returns-in_err-link : goal.returns-in_err-link
 unfolding regraft_of
-returns-in-err-link g c m h =
-    step_ok _ (does_at (λ k. follow_of c.args.d (side c.args.right) k) (add-one c.args.d) (does_at (λ k. follow_of c.args.d k (c.args.d + 1)) c.side-number-side.ensures c.in-ok-follow.ensures.does) m h) (λ m1 p1.
-    step_exit _ c.from-residual-in-err-link.ensures.1 (does_at (λ k. link_of c.args.d k 35) c.side-number-side.ensures c.in-err-link.ensures.does m1 p1))
+returns-in_err-link g c m h =
+    step_ok _ (does_at (λ k. follow_of c.args.d (side c.args.right) k) (add-one c.args.d) (does_at (λ k. follow_of c.args.d k (c.args.d + 1)) c.side_number-side.ensures c.in_ok-follow.ensures.does) m h) (λ m1 p1.
+    step_exit _ c.from_residual-in_err-link.ensures.1 (does_at (λ k. link_of c.args.d k 35) c.side_number-side.ensures c.in_err-link.ensures.does m1 p1))
 
-pub returns-in-err-sibling-fix : goal.returns-in-err-sibling-fix
+pub returns-in_err-sibling_fix : goal.returns-in_err-sibling_fix
 unfolding regraft_of
-returns-in-err-sibling-fix g c m h =
-    step_ok _ (does_at (λ k. follow_of c.args.d (side c.args.right) k) (add-one c.args.d) (does_at (λ k. follow_of c.args.d k (c.args.d + 1)) c.side-number-side.ensures c.in-ok-follow.ensures.does) m h) (λ m1 p1.
-    step_ok _ (does_at (λ k. link_of c.args.d k 35) c.side-number-side.ensures c.in-ok-link.ensures.does m1 p1) (λ m2 p2.
-    run_exit _ c.from-residual-in-err-sibling-fix.ensures.1 (runs_at (λ k. sibling_fix_of k c.args.right) (add-one c.args.d) c.in-err-sibling-fix.ensures m2 p2)))
+returns-in_err-sibling_fix g c m h =
+    step_ok _ (does_at (λ k. follow_of c.args.d (side c.args.right) k) (add-one c.args.d) (does_at (λ k. follow_of c.args.d k (c.args.d + 1)) c.side_number-side.ensures c.in_ok-follow.ensures.does) m h) (λ m1 p1.
+    step_ok _ (does_at (λ k. link_of c.args.d k 35) c.side_number-side.ensures c.in_ok-link.ensures.does m1 p1) (λ m2 p2.
+    run_exit _ c.from_residual-in_err-sibling_fix.ensures.1 (runs_at (λ k. sibling_fix_of k c.args.right) (add-one c.args.d) c.in_err-sibling_fix.ensures m2 p2)))
 
-pub returns-in-err-link-2 : goal.returns-in-err-link-2
+pub returns-in_err-link-2 : goal.returns-in_err-link-2
 unfolding regraft_of
-returns-in-err-link-2 g c m h =
-    step_ok _ (does_at (λ k. follow_of c.args.d (side c.args.right) k) (add-one c.args.d) (does_at (λ k. follow_of c.args.d k (c.args.d + 1)) c.side-number-side.ensures c.in-ok-follow.ensures.does) m h) (λ m1 p1.
-    step_ok _ (does_at (λ k. link_of c.args.d k 35) c.side-number-side.ensures c.in-ok-link.ensures.does m1 p1) (λ m2 p2.
-    run_ok _ (runs_at (λ k. sibling_fix_of k c.args.right) (add-one c.args.d) c.in-ok-sibling-fix.ensures m2 p2) (λ m3 p3.
-    step_exit _ c.from-residual-in-err-link-2.ensures.1 (does_at (λ k. link_of c.args.d (side c.args.right) k) (add-one c.args.d) (does_at (λ k. link_of c.args.d k (c.args.d + 1)) c.side-number-side.ensures c.in-err-link-2.ensures.does) m3 p3))))
+returns-in_err-link-2 g c m h =
+    step_ok _ (does_at (λ k. follow_of c.args.d (side c.args.right) k) (add-one c.args.d) (does_at (λ k. follow_of c.args.d k (c.args.d + 1)) c.side_number-side.ensures c.in_ok-follow.ensures.does) m h) (λ m1 p1.
+    step_ok _ (does_at (λ k. link_of c.args.d k 35) c.side_number-side.ensures c.in_ok-link.ensures.does m1 p1) (λ m2 p2.
+    run_ok _ (runs_at (λ k. sibling_fix_of k c.args.right) (add-one c.args.d) c.in_ok-sibling_fix.ensures m2 p2) (λ m3 p3.
+    step_exit _ c.from_residual-in_err-link-2.ensures.1 (does_at (λ k. link_of c.args.d (side c.args.right) k) (add-one c.args.d) (does_at (λ k. link_of c.args.d k (c.args.d + 1)) c.side_number-side.ensures c.in_err-link-2.ensures.does) m3 p3))))
 
 pub returns : goal.returns
 unfolding regraft_of
 returns g c m h =
-    step_ok _ (does_at (λ k. follow_of c.args.d (side c.args.right) k) (add-one c.args.d) (does_at (λ k. follow_of c.args.d k (c.args.d + 1)) c.side-number-side.ensures c.in-ok-follow.ensures.does) m h) (λ m1 p1.
-    step_ok _ (does_at (λ k. link_of c.args.d k 35) c.side-number-side.ensures c.in-ok-link.ensures.does m1 p1) (λ m2 p2.
-    run_ok _ (runs_at (λ k. sibling_fix_of k c.args.right) (add-one c.args.d) c.in-ok-sibling-fix.ensures m2 p2) (λ m3 p3.
-    step_ok _ (does_at (λ k. link_of c.args.d (side c.args.right) k) (add-one c.args.d) (does_at (λ k. link_of c.args.d k (c.args.d + 1)) c.side-number-side.ensures c.in-ok-link-2.ensures.does) m3 p3) (λ m4 p4.
+    step_ok _ (does_at (λ k. follow_of c.args.d (side c.args.right) k) (add-one c.args.d) (does_at (λ k. follow_of c.args.d k (c.args.d + 1)) c.side_number-side.ensures c.in_ok-follow.ensures.does) m h) (λ m1 p1.
+    step_ok _ (does_at (λ k. link_of c.args.d k 35) c.side_number-side.ensures c.in_ok-link.ensures.does m1 p1) (λ m2 p2.
+    run_ok _ (runs_at (λ k. sibling_fix_of k c.args.right) (add-one c.args.d) c.in_ok-sibling_fix.ensures m2 p2) (λ m3 p3.
+    step_ok _ (does_at (λ k. link_of c.args.d (side c.args.right) k) (add-one c.args.d) (does_at (λ k. link_of c.args.d k (c.args.d + 1)) c.side_number-side.ensures c.in_ok-link-2.ensures.does) m3 p3) (λ m4 p4.
     record { to = (refl, p4) }))))

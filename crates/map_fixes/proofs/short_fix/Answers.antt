@@ -5,27 +5,27 @@ use Rattle.memory.specs.Steps.{follow_of}
 use Rattle.tree_calls.proofs.Branches.{on_true, on_false}
 use Rattle.map_fixes.proofs.short_fix.Goals as goal
 
-pub returns-in-err-follow : goal.returns-in-err-follow
+pub returns-in_err-follow : goal.returns-in_err-follow
 unfolding short_fix_of
-returns-in-err-follow g c m h =
-    step_exit _ c.from-residual.ensures.1 (does_at (λ k. follow_of c.args.d k 26) c.side-number.ensures c.in-err-follow.ensures.does m h)
+returns-in_err-follow g c m h =
+    step_exit _ c.from_residual.ensures.1 (does_at (λ k. follow_of c.args.d k 26) c.side_number.ensures c.in_err-follow.ensures.does m h)
 
-pub returns-in-err-is-red : goal.returns-in-err-is-red
+pub returns-in_err-is_red : goal.returns-in_err-is_red
 unfolding short_fix_of
-returns-in-err-is-red g c m h =
-    step_ok _ (does_at (λ k. follow_of c.args.d k 26) c.side-number.ensures c.in-ok-follow.ensures.does m h) (λ m1 p1.
-    run_exit _ c.from-residual-in-err-is-red.ensures.1 (c.in-err-is-red.ensures m1 p1))
+returns-in_err-is_red g c m h =
+    step_ok _ (does_at (λ k. follow_of c.args.d k 26) c.side_number.ensures c.in_ok-follow.ensures.does m h) (λ m1 p1.
+    run_exit _ c.from_residual-in_err-is_red.ensures.1 (c.in_err-is_red.ensures m1 p1))
 
 pub returns-then-branch : goal.returns-then-branch
 unfolding short_fix_of
 returns-then-branch g c m h =
-    step_ok _ (does_at (λ k. follow_of c.args.d k 26) c.side-number.ensures c.in-ok-follow.ensures.does m h) (λ m1 p1.
-    run_ok _ (c.in-ok-is-red.ensures m1 p1) (λ m2 p2.
-    on_true _ _ _ c.if-branch.true (c.red-sibling.ensures m2 p2)))
+    step_ok _ (does_at (λ k. follow_of c.args.d k 26) c.side_number.ensures c.in_ok-follow.ensures.does m h) (λ m1 p1.
+    run_ok _ (c.in_ok-is_red.ensures m1 p1) (λ m2 p2.
+    on_true _ _ _ c.if-branch.true (c.red_sibling.ensures m2 p2)))
 
 pub returns : goal.returns
 unfolding short_fix_of
 returns g c m h =
-    step_ok _ (does_at (λ k. follow_of c.args.d k 26) c.side-number.ensures c.in-ok-follow.ensures.does m h) (λ m1 p1.
-    run_ok _ (c.in-ok-is-red.ensures m1 p1) (λ m2 p2.
-    on_false _ _ _ c.if-branch.false (c.sibling-fix.ensures m2 p2)))
+    step_ok _ (does_at (λ k. follow_of c.args.d k 26) c.side_number.ensures c.in_ok-follow.ensures.does m h) (λ m1 p1.
+    run_ok _ (c.in_ok-is_red.ensures m1 p1) (λ m2 p2.
+    on_false _ _ _ c.if-branch.false (c.sibling_fix.ensures m2 p2)))

@@ -2,18 +2,18 @@ use Rattle.memory.proofs.Rows.{step_ok, step_exit, last_call, run_ok, run_exit}
 use Rattle.map_steps.specs.Insert.{add_of}
 use Rattle.map_insert.proofs.add.Goals as goal
 
-pub returns-in-err-load : goal.returns-in-err-load
+pub returns-in_err-load : goal.returns-in_err-load
 unfolding add_of
-returns-in-err-load g c m h = step_exit _ c.from-residual.ensures.1 (c.in-err-load.ensures.does m h)
+returns-in_err-load g c m h = step_exit _ c.from_residual.ensures.1 (c.in_err-load.ensures.does m h)
 
-pub returns-in-err-insert : goal.returns-in-err-insert
+pub returns-in_err-insert : goal.returns-in_err-insert
 unfolding add_of
-returns-in-err-insert g c m h = step_ok _ (c.in-ok-load.ensures.does m h) (λ m1 p1. run_exit _ c.from-residual-in-err-insert.ensures.1 (c.in-err-insert.ensures m1 p1))
+returns-in_err-insert g c m h = step_ok _ (c.in_ok-load.ensures.does m h) (λ m1 p1. run_exit _ c.from_residual-in_err-insert.ensures.1 (c.in_err-insert.ensures m1 p1))
 
-pub returns-in-err-set-mark : goal.returns-in-err-set-mark
+pub returns-in_err-set_mark : goal.returns-in_err-set_mark
 unfolding add_of
-returns-in-err-set-mark g c m h = step_ok _ (c.in-ok-load.ensures.does m h) (λ m1 p1. run_ok _ (c.in-ok-insert.ensures m1 p1) (λ m2 p2. run_exit _ c.from-residual-in-err-set-mark.ensures.1 (c.in-err-set-mark.ensures m2 p2)))
+returns-in_err-set_mark g c m h = step_ok _ (c.in_ok-load.ensures.does m h) (λ m1 p1. run_ok _ (c.in_ok-insert.ensures m1 p1) (λ m2 p2. run_exit _ c.from_residual-in_err-set_mark.ensures.1 (c.in_err-set_mark.ensures m2 p2)))
 
 pub returns : goal.returns
 unfolding add_of
-returns g c m h = step_ok _ (c.in-ok-load.ensures.does m h) (λ m1 p1. run_ok _ (c.in-ok-insert.ensures m1 p1) (λ m2 p2. run_ok _ (c.in-ok-set-mark.ensures m2 p2) (λ m3 p3. c.save.ensures m3 p3)))
+returns g c m h = step_ok _ (c.in_ok-load.ensures.does m h) (λ m1 p1. run_ok _ (c.in_ok-insert.ensures m1 p1) (λ m2 p2. run_ok _ (c.in_ok-set_mark.ensures m2 p2) (λ m3 p3. c.save.ensures m3 p3)))

@@ -5,36 +5,36 @@ use Rattle.memory.proofs.Rows.{step_ok, step_exit, run_ok, run_exit}
 use Rattle.memory.specs.Steps.{follow_of}
 use Rattle.map_remove.proofs.take.Goals as goal
 
-pub returns-in-err-copy : goal.returns-in-err-copy
+pub returns-in_err-copy : goal.returns-in_err-copy
 unfolding take_of unlink_of
-returns-in-err-copy g c m h = step_exit _ c.from-residual.ensures.1 (c.in-err-copy.ensures.does m h)
+returns-in_err-copy g c m h = step_exit _ c.from_residual.ensures.1 (c.in_err-copy.ensures.does m h)
 
-pub returns-in-err-red : goal.returns-in-err-red
+pub returns-in_err-red : goal.returns-in_err-red
 unfolding take_of unlink_of
-returns-in-err-red g c m h =
-    step_ok _ (c.in-ok-copy.ensures.does m h) (λ m1 p1.
-    run_exit _ c.from-residual-in-err-red.ensures.1 (c.in-err-red.ensures m1 p1))
+returns-in_err-red g c m h =
+    step_ok _ (c.in_ok-copy.ensures.does m h) (λ m1 p1.
+    run_exit _ c.from_residual-in_err-red.ensures.1 (c.in_err-red.ensures m1 p1))
 
-pub returns-in-err-follow : goal.returns-in-err-follow
+pub returns-in_err-follow : goal.returns-in_err-follow
 unfolding take_of unlink_of
-returns-in-err-follow g c m h =
-    step_ok _ (c.in-ok-copy.ensures.does m h) (λ m1 p1.
-    run_ok _ (c.in-ok-red.ensures m1 p1) (λ m2 p2.
-    step_exit _ c.from-residual-in-err-follow.ensures.1 (does_at (λ k. follow_of 36 k c.args.d) c.side-number.ensures c.in-err-follow.ensures.does m2 p2)))
+returns-in_err-follow g c m h =
+    step_ok _ (c.in_ok-copy.ensures.does m h) (λ m1 p1.
+    run_ok _ (c.in_ok-red.ensures m1 p1) (λ m2 p2.
+    step_exit _ c.from_residual-in_err-follow.ensures.1 (does_at (λ k. follow_of 36 k c.args.d) c.side_number.ensures c.in_err-follow.ensures.does m2 p2)))
 
-pub returns-in-err-unlink : goal.returns-in-err-unlink
+pub returns-in_err-unlink : goal.returns-in_err-unlink
 unfolding take_of unlink_of
-returns-in-err-unlink g c m h =
-    step_ok _ (c.in-ok-copy.ensures.does m h) (λ m1 p1.
-    run_ok _ (c.in-ok-red.ensures m1 p1) (λ m2 p2.
-    step_ok _ (does_at (λ k. follow_of 36 k c.args.d) c.side-number.ensures c.in-ok-follow.ensures.does m2 p2) (λ m3 p3.
-    run_exit _ c.from-residual-in-err-unlink.ensures.1 (c.in-err-unlink.ensures m3 p3))))
+returns-in_err-unlink g c m h =
+    step_ok _ (c.in_ok-copy.ensures.does m h) (λ m1 p1.
+    run_ok _ (c.in_ok-red.ensures m1 p1) (λ m2 p2.
+    step_ok _ (does_at (λ k. follow_of 36 k c.args.d) c.side_number.ensures c.in_ok-follow.ensures.does m2 p2) (λ m3 p3.
+    run_exit _ c.from_residual-in_err-unlink.ensures.1 (c.in_err-unlink.ensures m3 p3))))
 
 pub returns : goal.returns
 unfolding take_of unlink_of
 returns g c m h =
-    step_ok _ (c.in-ok-copy.ensures.does m h) (λ m1 p1.
-    run_ok _ (c.in-ok-red.ensures m1 p1) (λ m2 p2.
-    step_ok _ (does_at (λ k. follow_of 36 k c.args.d) c.side-number.ensures c.in-ok-follow.ensures.does m2 p2) (λ m3 p3.
-    run_ok _ (c.in-ok-unlink.ensures m3 p3) (λ m4 p4.
+    step_ok _ (c.in_ok-copy.ensures.does m h) (λ m1 p1.
+    run_ok _ (c.in_ok-red.ensures m1 p1) (λ m2 p2.
+    step_ok _ (does_at (λ k. follow_of 36 k c.args.d) c.side_number.ensures c.in_ok-follow.ensures.does m2 p2) (λ m3 p3.
+    run_ok _ (c.in_ok-unlink.ensures m3 p3) (λ m4 p4.
     c.spliced.ensures m4 p4))))

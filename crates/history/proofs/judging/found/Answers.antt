@@ -5,7 +5,7 @@ use Rattle.books.specs.Books.{book_keys}
 use Rattle.history.proofs.Fronts.{front_next, front_end, front_all}
 use Rattle.history.proofs.Lookups.{this_piece, other_file, other_piece, none_more, found_first}
 use Rattle.history.proofs.judging.found.Goals as goal
-use Rattle.history.proofs.judging.found.Goals.{in-Some+else-noted-file, else-noted-file-via-then-noted-file+else-from-piece, else-noted-file-via-else-noted-file, in-default}
+use Rattle.history.proofs.judging.found.Goals.{in-Some+else-noted-file, else-noted-file-via-then-noted-file+else-from-piece, else-noted-file-via-else-noted-file, in_default}
 
 pub returns-then-from-piece : goal.returns-then-from-piece
 returns-then-from-piece c =
@@ -25,9 +25,9 @@ loop-place-preserved c =
                 other_piece w.in-Some.noted.key c.args.file c.args.piece (λ e. w'.if-from-piece.false (w'.from.ensures ∙ e))
             | else-noted-file-via-else-noted-file w' ↦ other_file w.in-Some.noted.key c.args.file c.args.piece w'.if-noted-file.false
           ]))
-      | in-default w ↦
+      | in_default w ↦
           front_end (λ xs. print_at xs c.args.file c.args.piece ≡ None) (book_keys c.args.history.now) c.loop-place.place
-          w.in-default.ensures c.loop-place.invariant
+          w.in_default.ensures c.loop-place.invariant
     ]
 
 pub returns : goal.returns

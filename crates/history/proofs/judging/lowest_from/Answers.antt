@@ -8,7 +8,7 @@ use Rattle.history.proofs.Fronts.{front_next, front_end, front_all}
 use Rattle.history.proofs.Lookups.{other_file, other_piece}
 use Rattle.history.proofs.Lowest.{lowest_same, lowest_more}
 use Rattle.history.proofs.judging.lowest_from.Goals as goal
-use Rattle.history.proofs.judging.lowest_from.Goals.{in-Some+then-noted-file+then-piece-from, in-Some+else-noted-file, else-noted-file-via-then-noted-file+else-piece-from, else-noted-file-via-else-noted-file, in-default}
+use Rattle.history.proofs.judging.lowest_from.Goals.{in-Some+then-noted-file+then-piece-from, in-Some+else-noted-file, else-noted-file-via-then-noted-file+else-piece-from, else-noted-file-via-else-noted-file, in_default}
 
 pub loop-place-preserved : goal.loop-place-preserved
 loop-place-preserved c =
@@ -17,7 +17,7 @@ loop-place-preserved c =
     elim c.match-key.branch [
       | in-Some+then-noted-file+then-piece-from w ↦
           (let m = w.min.ensures in
-          let u = w.unwrap-or.ensures in
+          let u = w.unwrap_or.ensures in
           let f = w.from-piece.ensures in
           let is : Some (min w.in-Some.noted.key.piece (unwrap_or c.loop-place.lowest w.in-Some.noted.key.piece)) ≡ c.match-key.lowest = cc w.lowest-is in
           subst (λ o. L o (take (c.loop-place.place + 1) xs)) is
@@ -35,9 +35,9 @@ loop-place-preserved c =
             | else-noted-file-via-else-noted-file w' ↦ other_file w.in-Some.noted.key c.args.file j w'.if-noted-file.false
           ])
           c.loop-place.invariant))
-      | in-default w ↦
+      | in_default w ↦
           subst (λ o. L o (take (c.loop-place.place + 1) xs)) (sym w.lowest-is)
-          (front_end (L c.loop-place.lowest) xs c.loop-place.place w.in-default.ensures c.loop-place.invariant)
+          (front_end (L c.loop-place.lowest) xs c.loop-place.place w.in_default.ensures c.loop-place.invariant)
     ]
 
 pub returns : goal.returns

@@ -6,7 +6,7 @@ use Rattle.history.specs.Same.{NoPiece}
 use Rattle.history.proofs.Fronts.{front_next, front_end, front_all}
 use Rattle.history.proofs.Lookups.{other_file, none_more, present_at}
 use Rattle.history.proofs.judging.records.Goals as goal
-use Rattle.history.proofs.judging.records.Goals.{in-Some+else-noted-file, in-default}
+use Rattle.history.proofs.judging.records.Goals.{in-Some+else-noted-file, in_default}
 
 pub returns-then-noted-file : goal.returns-then-noted-file
 returns-then-noted-file c =
@@ -27,9 +27,9 @@ loop-place-preserved c =
           w.in-Some.noted w.in-Some.ensures
           (λ k. none_more _ w.in-Some.noted c.args.file k (c.loop-place.invariant k)
           (other_file w.in-Some.noted.key c.args.file k w.if-noted-file.false))
-      | in-default w ↦
+      | in_default w ↦
           front_end (λ xs. NoPiece (print_at xs c.args.file)) (book_keys c.args.history.now) c.loop-place.place
-          w.in-default.ensures c.loop-place.invariant
+          w.in_default.ensures c.loop-place.invariant
     ]
 
 pub returns : goal.returns

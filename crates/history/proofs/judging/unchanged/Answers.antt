@@ -4,10 +4,10 @@ use Rattle.history.specs.Prints.{found_in}
 use Rattle.history.proofs.Judgements.{no_other}
 use Rattle.history.proofs.judging.unchanged.Goals as goal
 
-pub returns-in-default : goal.returns-in-default
-returns-in-default c =
+pub returns-in_default : goal.returns-in_default
+returns-in_default c =
     record {
       sound = search rules;
       complete = λ u.
-          absurd (c.in-default.not-Unchanged (no_other (found_in c.args.history.now c.args.file) c.args.prints.now c.judge.result c.judge.ensures u));
+          absurd (c.in_default.not-Unchanged (no_other (found_in c.args.history.now c.args.file) c.args.prints.now c.judge.result c.judge.ensures u));
     }

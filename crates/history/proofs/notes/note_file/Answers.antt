@@ -6,12 +6,12 @@ use Rattle.history.specs.Files.{noted, file_pieces}
 use Rattle.history.proofs.Noting.{noting_length, noting_more, noting_all, never_full, keys_pushed, fits_all}
 use Rattle.history.proofs.notes.note_file.Goals as goal
 
-pub returns-in-err-push : goal.returns-in-err-push
-returns-in-err-push c =
+pub returns-in_err-push : goal.returns-in_err-push
+returns-in_err-push c =
     let h = c.loop-k.invariant in
     let n = noting_length (book_keys c.args.history.now) (book_keys c.loop-k.history) c.args.file c.args.prints.now c.loop-k.k h.0 (omega arith) in
     let lt : length (book_keys c.loop-k.history) < book_room c.loop-k.history = omega (arith, h.1, c.room.ensures.places, c.room.ensures.enough, c.count.ensures) in
-    absurd (never_full (book_keys c.loop-k.history) (book_room c.loop-k.history) c.push.result c.in-err-push.field-0.0 lt c.push.ensures.answer c.in-err-push.was)
+    absurd (never_full (book_keys c.loop-k.history) (book_room c.loop-k.history) c.push.result c.in_err-push.field-0.0 lt c.push.ensures.answer c.in_err-push.was)
 
 pub loop-k-preserved : goal.loop-k-preserved
 loop-k-preserved c =

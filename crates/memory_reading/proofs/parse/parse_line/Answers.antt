@@ -8,13 +8,13 @@ use Rattle.memory_reading.proofs.parse.parse_line.Goals as goal
 
 pub returns-in-Some-2 : goal.returns-in-Some-2
 returns-in-Some-2 c =
-    c.line-of.ensures ∙ ap (line_of c.in-Some-word-of.word) c.as-slice.ensures.value
-    ∙ text_line_lem (left c.words-words.result) (left c.part.new.self) c.in-Some.part.now c.in-Some-word-of.word _ c.in-Some.ensures.part c.in-Some.ensures.rest
-    c.in-Some-word-of.ensures (sym (ap (option_map vec_items) c.in-Some-2.is) ∙ c.in-ok-numbers.ensures)
+    c.line_of.ensures ∙ ap (line_of c.in-Some-word_of.word) c.as_slice.ensures.value
+    ∙ text_line_lem (left c.words-words.result) (left c.part.new.self) c.in-Some.part.now c.in-Some-word_of.word _ c.in-Some.ensures.part c.in-Some.ensures.rest
+    c.in-Some-word_of.ensures (sym (ap (option_map vec_items) c.in-Some-2.is) ∙ c.in_ok-numbers.ensures)
     ∙ ap text_line c.words-words.ensures
 
 pub returns-in-None : goal.returns-in-None
 returns-in-None c =
-    text_line_lem (left c.words-words.result) (left c.part.new.self) c.in-Some.part.now c.in-Some-word-of.word _ c.in-Some.ensures.part c.in-Some.ensures.rest
-    c.in-Some-word-of.ensures (sym (ap (option_map vec_items) c.in-None.is) ∙ c.in-ok-numbers.ensures)
+    text_line_lem (left c.words-words.result) (left c.part.new.self) c.in-Some.part.now c.in-Some-word_of.word _ c.in-Some.ensures.part c.in-Some.ensures.rest
+    c.in-Some-word_of.ensures (sym (ap (option_map vec_items) c.in-None.is) ∙ c.in_ok-numbers.ensures)
     ∙ ap text_line c.words-words.ensures

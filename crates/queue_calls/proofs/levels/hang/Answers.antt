@@ -6,65 +6,65 @@ use Rattle.queue_steps.specs.Merge.{hang_of}
 use Rattle.queue_calls.proofs.Ranks.{le_false, hang_next}
 use Rattle.queue_calls.proofs.levels.hang.Goals as goal
 
-pub returns-in-err-follow : goal.returns-in-err-follow
+pub returns-in_err-follow : goal.returns-in_err-follow
 unfolding hang_of
-returns-in-err-follow g c m h = search rules
+returns-in_err-follow g c m h = search rules
 
-pub returns-in-err-left : goal.returns-in-err-left
-returns-in-err-left g c m h =
+pub returns-in_err-left : goal.returns-in_err-left
+returns-in_err-left g c m h =
     rw (hang_next c.args.d m)
-    (step_ok _ (c.in-ok-follow.ensures.does m h) (λ m1 p1. run_exit _ c.from-residual-in-err-left.ensures.1 (c.in-err-left.ensures m1 p1)))
+    (step_ok _ (c.in_ok-follow.ensures.does m h) (λ m1 p1. run_exit _ c.from_residual-in_err-left.ensures.1 (c.in_err-left.ensures m1 p1)))
 
-pub returns-in-err-right : goal.returns-in-err-right
-returns-in-err-right g c m h =
+pub returns-in_err-right : goal.returns-in_err-right
+returns-in_err-right g c m h =
     rw (hang_next c.args.d m)
-    (step_ok _ (c.in-ok-follow.ensures.does m h) (λ m1 p1.
-    run_ok _ (c.in-ok-left.ensures m1 p1) (λ m2 p2.
-    run_exit _ c.from-residual-in-err-right.ensures.1 (c.in-err-right.ensures m2 p2))))
+    (step_ok _ (c.in_ok-follow.ensures.does m h) (λ m1 p1.
+    run_ok _ (c.in_ok-left.ensures m1 p1) (λ m2 p2.
+    run_exit _ c.from_residual-in_err-right.ensures.1 (c.in_err-right.ensures m2 p2))))
 
-pub returns-in-err-relink : goal.returns-in-err-relink
-returns-in-err-relink g c m h =
+pub returns-in_err-relink : goal.returns-in_err-relink
+returns-in_err-relink g c m h =
     rw (hang_next c.args.d m)
-    (step_ok _ (c.in-ok-follow.ensures.does m h) (λ m1 p1.
-    run_ok _ (c.in-ok-left.ensures m1 p1) (λ m2 p2.
-    run_ok _ (c.in-ok-right.ensures m2 p2) (λ m3 p3.
+    (step_ok _ (c.in_ok-follow.ensures.does m h) (λ m1 p1.
+    run_ok _ (c.in_ok-left.ensures m1 p1) (λ m2 p2.
+    run_ok _ (c.in_ok-right.ensures m2 p2) (λ m3 p3.
     on_true _ _ _ (le_true _ _ c.if-right-left.true)
-    (run_exit _ c.from-residual-in-err-relink.ensures.1 (c.in-err-relink.ensures m3 p3))))))
+    (run_exit _ c.from_residual-in_err-relink.ensures.1 (c.in_err-relink.ensures m3 p3))))))
 
 pub returns-then-right-left : goal.returns-then-right-left
 returns-then-right-left g c m h =
     rw (hang_next c.args.d m)
-    (step_ok _ (c.in-ok-follow.ensures.does m h) (λ m1 p1.
-    run_ok _ (c.in-ok-left.ensures m1 p1) (λ m2 p2.
-    run_ok _ (c.in-ok-right.ensures m2 p2) (λ m3 p3.
+    (step_ok _ (c.in_ok-follow.ensures.does m h) (λ m1 p1.
+    run_ok _ (c.in_ok-left.ensures m1 p1) (λ m2 p2.
+    run_ok _ (c.in_ok-right.ensures m2 p2) (λ m3 p3.
     on_true _ _ _ (le_true _ _ c.if-right-left.true)
-    (run_ok _ (c.in-ok-relink.ensures m3 p3) (λ m4 p4. c.ranked.ensures m4 p4))))))
+    (run_ok _ (c.in_ok-relink.ensures m3 p3) (λ m4 p4. c.ranked.ensures m4 p4))))))
 
-pub returns-in-err-relink-2 : goal.returns-in-err-relink-2
-returns-in-err-relink-2 g c m h =
+pub returns-in_err-relink-2 : goal.returns-in_err-relink-2
+returns-in_err-relink-2 g c m h =
     rw (hang_next c.args.d m)
-    (step_ok _ (c.in-ok-follow.ensures.does m h) (λ m1 p1.
-    run_ok _ (c.in-ok-left.ensures m1 p1) (λ m2 p2.
-    run_ok _ (c.in-ok-right.ensures m2 p2) (λ m3 p3.
+    (step_ok _ (c.in_ok-follow.ensures.does m h) (λ m1 p1.
+    run_ok _ (c.in_ok-left.ensures m1 p1) (λ m2 p2.
+    run_ok _ (c.in_ok-right.ensures m2 p2) (λ m3 p3.
     on_false _ _ _ (le_false _ _ c.if-right-left.false)
-    (run_exit _ c.from-residual-in-err-relink-2.ensures.1 (c.in-err-relink-2.ensures m3 p3))))))
+    (run_exit _ c.from_residual-in_err-relink-2.ensures.1 (c.in_err-relink-2.ensures m3 p3))))))
 
-pub returns-in-err-relink-3 : goal.returns-in-err-relink-3
-returns-in-err-relink-3 g c m h =
+pub returns-in_err-relink-3 : goal.returns-in_err-relink-3
+returns-in_err-relink-3 g c m h =
     rw (hang_next c.args.d m)
-    (step_ok _ (c.in-ok-follow.ensures.does m h) (λ m1 p1.
-    run_ok _ (c.in-ok-left.ensures m1 p1) (λ m2 p2.
-    run_ok _ (c.in-ok-right.ensures m2 p2) (λ m3 p3.
+    (step_ok _ (c.in_ok-follow.ensures.does m h) (λ m1 p1.
+    run_ok _ (c.in_ok-left.ensures m1 p1) (λ m2 p2.
+    run_ok _ (c.in_ok-right.ensures m2 p2) (λ m3 p3.
     on_false _ _ _ (le_false _ _ c.if-right-left.false)
-    (run_ok _ (c.in-ok-relink-2.ensures m3 p3) (λ m4 p4.
-    run_exit _ c.from-residual-in-err-relink-3.ensures.1 (c.in-err-relink-3.ensures m4 p4)))))))
+    (run_ok _ (c.in_ok-relink-2.ensures m3 p3) (λ m4 p4.
+    run_exit _ c.from_residual-in_err-relink-3.ensures.1 (c.in_err-relink-3.ensures m4 p4)))))))
 
 pub returns : goal.returns
 returns g c m h =
     rw (hang_next c.args.d m)
-    (step_ok _ (c.in-ok-follow.ensures.does m h) (λ m1 p1.
-    run_ok _ (c.in-ok-left.ensures m1 p1) (λ m2 p2.
-    run_ok _ (c.in-ok-right.ensures m2 p2) (λ m3 p3.
+    (step_ok _ (c.in_ok-follow.ensures.does m h) (λ m1 p1.
+    run_ok _ (c.in_ok-left.ensures m1 p1) (λ m2 p2.
+    run_ok _ (c.in_ok-right.ensures m2 p2) (λ m3 p3.
     on_false _ _ _ (le_false _ _ c.if-right-left.false)
-    (run_ok _ (c.in-ok-relink-2.ensures m3 p3) (λ m4 p4.
-    run_ok _ (c.in-ok-relink-3.ensures m4 p4) (λ m5 p5. c.ranked-2.ensures m5 p5)))))))
+    (run_ok _ (c.in_ok-relink-2.ensures m3 p3) (λ m4 p4.
+    run_ok _ (c.in_ok-relink-3.ensures m4 p4) (λ m5 p5. c.ranked-2.ensures m5 p5)))))))

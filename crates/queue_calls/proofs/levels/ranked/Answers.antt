@@ -6,4 +6,4 @@ pub returns-then-right-ge4294967295 : goal.returns-then-right-ge4294967295
 returns-then-right-ge4294967295 g c m h = rw (rank_spent c.args.d c.args.right m (omega arith)) (record { to = refl })
 
 pub returns : goal.returns
-returns g c m h = rw (rank_next c.args.d c.args.right m (omega arith)) (c.set-mark.ensures m h)
+returns g c m h = rw (rank_next c.args.d c.args.right m (omega arith)) (c.set_mark.ensures m h)

@@ -4,26 +4,26 @@ use Rattle.tree_calls.proofs.Branches.{on_true, on_false}
 use Rattle.queue_calls.specs.Rows.{lead_of}
 use Rattle.queue_calls.proofs.merging.lead.Goals as goal
 
-pub returns-in-err-there : goal.returns-in-err-there
+pub returns-in_err-there : goal.returns-in_err-there
 unfolding lead_of
-returns-in-err-there g c m h = step_exit _ c.from-residual.ensures.1 (c.in-err-there.ensures.does m h)
+returns-in_err-there g c m h = step_exit _ c.from_residual.ensures.1 (c.in_err-there.ensures.does m h)
 
-pub returns-in-err-here : goal.returns-in-err-here
+pub returns-in_err-here : goal.returns-in_err-here
 unfolding lead_of
-returns-in-err-here g c m h =
-    step_ok _ (c.in-ok-there.ensures.does m h) (λ m1 p1.
-    step_exit _ c.from-residual-in-err-here.ensures.1 (c.in-err-here.ensures.does m1 p1))
+returns-in_err-here g c m h =
+    step_ok _ (c.in_ok-there.ensures.does m h) (λ m1 p1.
+    step_exit _ c.from_residual-in_err-here.ensures.1 (c.in_err-here.ensures.does m1 p1))
 
-pub returns-then-place-first : goal.returns-then-place-first
+pub returns-then-place_first : goal.returns-then-place_first
 unfolding lead_of
-returns-then-place-first g c m h =
-    step_ok _ (c.in-ok-there.ensures.does m h) (λ m1 p1.
-    step_ok _ (c.in-ok-here.ensures.does m1 p1) (λ m2 p2.
-    on_true _ _ _ (sym c.place-first.ensures ∙ c.if-place-first.true) (c.swap.ensures m2 p2)))
+returns-then-place_first g c m h =
+    step_ok _ (c.in_ok-there.ensures.does m h) (λ m1 p1.
+    step_ok _ (c.in_ok-here.ensures.does m1 p1) (λ m2 p2.
+    on_true _ _ _ (sym c.place_first.ensures ∙ c.if-place_first.true) (c.swap.ensures m2 p2)))
 
 pub returns : goal.returns
 unfolding lead_of
 returns g c m h =
-    step_ok _ (c.in-ok-there.ensures.does m h) (λ m1 p1.
-    step_ok _ (c.in-ok-here.ensures.does m1 p1) (λ m2 p2.
-    on_false _ _ _ (sym c.place-first.ensures ∙ c.if-place-first.false) (record { to = (refl, p2) })))
+    step_ok _ (c.in_ok-there.ensures.does m h) (λ m1 p1.
+    step_ok _ (c.in_ok-here.ensures.does m1 p1) (λ m2 p2.
+    on_false _ _ _ (sym c.place_first.ensures ∙ c.if-place_first.false) (record { to = (refl, p2) })))

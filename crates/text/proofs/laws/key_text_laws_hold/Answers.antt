@@ -6,7 +6,7 @@ returns c = record {
   join = parts_join;
   split = parts_split;
   piece_back = pieces_read_back;
-  piece-written = pieces_are_written;
-  job-back = jobs_read_back;
-  job-written = jobs_are_written;
+  piece_written = pieces_are_written;
+  job_back = jobs_read_back;
+  job_written = jobs_are_written;
 }

@@ -3,29 +3,29 @@ use Rattle.std.proofs.Common.{◌≡◌, ℕ, ◌+◌, sym, ◌∙◌, subst, ar
 use Rattle.text.proofs.Reading.{Reading, reading_never, reading_more, reading_stops, reading_grows_over, reading_ends}
 use Rattle.text.proofs.numbers.read_u64.Goals as goal
 
-pub returns-then-not-is-ascii-digit : goal.returns-then-not-is-ascii-digit
-returns-then-not-is-ascii-digit c =
-    reading_stops c.args.text.now c.loop-b.b-index c.loop-b.n 64 c.loop-b.invariant.0 c.loop-b-test.true (sym c.if-not-is-ascii-digit.ensures.value)
+pub returns-then-not-is_ascii_digit : goal.returns-then-not-is_ascii_digit
+returns-then-not-is_ascii_digit c =
+    reading_stops c.args.text.now c.loop-b.b-index c.loop-b.n 64 c.loop-b.invariant.0 c.loop-b-test.true (sym c.if-not-is_ascii_digit.ensures.value)
 
-pub returns-in-err-checked-mul : goal.returns-in-err-checked-mul
-returns-in-err-checked-mul c =
-    c.from-residual.ensures
-    ∙ reading_grows_over c.args.text.now c.loop-b.b-index c.loop-b.n 64 c.loop-b.invariant.0 c.loop-b-test.true (sym c.if-not-is-ascii-digit.ensures.value)
-    (omega (arith, c.in-err-checked-mul.ensures))
+pub returns-in_err-checked_mul : goal.returns-in_err-checked_mul
+returns-in_err-checked_mul c =
+    c.from_residual.ensures
+    ∙ reading_grows_over c.args.text.now c.loop-b.b-index c.loop-b.n 64 c.loop-b.invariant.0 c.loop-b-test.true (sym c.if-not-is_ascii_digit.ensures.value)
+    (omega (arith, c.in_err-checked_mul.ensures))
 
-pub returns-in-err-n : goal.returns-in-err-n
-returns-in-err-n c =
-    c.from-residual-in-err-n.ensures
-    ∙ reading_grows_over c.args.text.now c.loop-b.b-index c.loop-b.n 64 c.loop-b.invariant.0 c.loop-b-test.true (sym c.if-not-is-ascii-digit.ensures.value)
-    (omega (arith, c.in-err-n.ensures, c.in-ok-checked-mul.ensures, c.from.ensures))
+pub returns-in_err-n : goal.returns-in_err-n
+returns-in_err-n c =
+    c.from_residual-in_err-n.ensures
+    ∙ reading_grows_over c.args.text.now c.loop-b.b-index c.loop-b.n 64 c.loop-b.invariant.0 c.loop-b-test.true (sym c.if-not-is_ascii_digit.ensures.value)
+    (omega (arith, c.in_err-n.ensures, c.in_ok-checked_mul.ensures, c.from.ensures))
 
 pub loop-b-preserved : goal.loop-b-preserved
 loop-b-preserved c = (
-  subst (λ (m : ℕ). Reading c.args.text.now (c.loop-b.b-index + 1) m) (omega (arith, c.in-ok-n.ensures, c.in-ok-checked-mul.ensures, c.from.ensures))
-      (reading_more c.args.text.now c.loop-b.b-index c.loop-b.n c.loop-b.invariant.0 c.loop-b-test.true (sym c.if-not-is-ascii-digit.ensures.value)),
+  subst (λ (m : ℕ). Reading c.args.text.now (c.loop-b.b-index + 1) m) (omega (arith, c.in_ok-n.ensures, c.in_ok-checked_mul.ensures, c.from.ensures))
+      (reading_more c.args.text.now c.loop-b.b-index c.loop-b.n c.loop-b.invariant.0 c.loop-b-test.true (sym c.if-not-is_ascii_digit.ensures.value)),
   search rules,
 )
 
 pub returns : goal.returns
 returns c =
-    reading_ends c.args.text.now c.loop-b.b-index c.loop-b.n 64 c.loop-b.invariant.0 (omega arith) (sym c.well_begun_lem.ensures ∙ c.if-not-well-begun.false) c.loop-b.invariant.1
+    reading_ends c.args.text.now c.loop-b.b-index c.loop-b.n 64 c.loop-b.invariant.0 (omega arith) (sym c.well_begun.ensures ∙ c.if-not-well_begun.false) c.loop-b.invariant.1

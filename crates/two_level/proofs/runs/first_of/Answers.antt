@@ -27,11 +27,11 @@ loop-left-preserved c =
     let g : group_at (vec_items c.args.rows.now) c.in-Some.y ≡ group_at (vec_items c.args.rows.now) c.args.a = omega (arith, c.if-index-group.false) in
     (b, back_more _ _ _ c.loop-left.left c.loop-left.x c.in-Some.y c.loop-left-test.true s g ∙ c.loop-left.invariant.1)
 
-pub returns-in-default : goal.returns-in-default
-returns-in-default c =
+pub returns-in_default : goal.returns-in_default
+returns-in_default c =
     let low : c.loop-left.x < vec_len c.args.rows.now = omega (arith, c.loop-left.invariant.0, c.requires.room) in
     let s : prev_at (vec_items c.args.rows.now) c.loop-left.x ≡ None =
-    sym (prev_of _ _ _ _ low c.args.rows.now.ok.0 c.index-in-loop-left.ensures) ∙ c.in-default.is in
+    sym (prev_of _ _ _ _ low c.args.rows.now.ok.0 c.index-in-loop-left.ensures) ∙ c.in_default.is in
     back_first (prev_at (vec_items c.args.rows.now)) (group_at (vec_items c.args.rows.now)) (group_at (vec_items c.args.rows.now) c.args.a) c.loop-left.left c.loop-left.x s ∙ c.loop-left.invariant.1
 
 pub returns-then-index-group : goal.returns-then-index-group

@@ -8,15 +8,15 @@ index-row-requires c =
     let a = c.loop-j.rows.ok.0 in
     omega arith
 
-pub index-mut-requires : goal.index-mut-requires
-index-mut-requires c =
+pub index_mut-requires : goal.index_mut-requires
+index_mut-requires c =
     let i = numbering_in _ _ _ _ _ _ _ c.loop-j.invariant c.in-Some.x c.loop-j-test.true c.in-Some.is in
     let a = c.loop-j.rows.ok.0 in
     omega arith
 
 pub loop-j-preserved : goal.loop-j-preserved
 loop-j-preserved c =
-    numbering_more _ _ _ _ _ _ _ c.loop-j.invariant c.in-Some.x c.loop-j-test.true c.in-Some.is c.index-row.result.now c.home-of-home.result c.index-row.ensures c.home-of-home.ensures
+    numbering_more _ _ _ _ _ _ _ c.loop-j.invariant c.in-Some.x c.loop-j-test.true c.in-Some.is c.index-row.result.now c.home_of-home.result c.index-row.ensures c.home_of-home.ensures
 
-pub returns-in-default : goal.returns-in-default
-returns-in-default c = numbering_none _ _ _ _ _ _ _ c.loop-j.invariant c.in-default.is
+pub returns-in_default : goal.returns-in_default
+returns-in_default c = numbering_none _ _ _ _ _ _ _ c.loop-j.invariant c.in_default.is

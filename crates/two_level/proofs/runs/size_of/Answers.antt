@@ -20,9 +20,9 @@ loop-k-preserved c =
           (omega arith),
     )
 
-pub returns-in-default : goal.returns-in-default
-returns-in-default c =
-    let m = ap length (run_none (next_at (vec_items c.args.rows.now)) (group_at (vec_items c.args.rows.now)) c.args.group (33 - c.loop-k.k) c.loop-k.next c.in-default.is) in
+pub returns-in_default : goal.returns-in_default
+returns-in_default c =
+    let m = ap length (run_none (next_at (vec_items c.args.rows.now)) (group_at (vec_items c.args.rows.now)) c.args.group (33 - c.loop-k.k) c.loop-k.next c.in_default.is) in
     let i = c.loop-k.invariant.1 in
     omega arith
 

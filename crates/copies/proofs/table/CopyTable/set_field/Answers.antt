@@ -6,8 +6,8 @@ use Rattle.copies.proofs.table.CopyTable.set_field.Goals as goal
 pub returns-then-row-u : goal.returns-then-row-u
 returns-then-row-u g c =
     first_changes (position (g.O.VersionOrder.items c.args.order.now)) (length (g.O.VersionOrder.items c.args.order.now))
-    c.args.u c.args.s c.args.more c.args.i c.args.field c.args.w c.args.self.now c.hold.new.self c.set-row.new.self c.row-row.result c.with-first.result
-    c.hold.ensures c.row-row.ensures c.if-row-u.true c.with-first.ensures c.set-row.ensures
+    c.args.u c.args.s c.args.more c.args.i c.args.field c.args.w c.args.self.now c.hold.new.self c.set_row.new.self c.row-row.result c.with_first.result
+    c.hold.ensures c.row-row.ensures c.if-row-u.true c.with_first.ensures c.set_row.ensures
 
 pub returns : goal.returns
 returns g c =

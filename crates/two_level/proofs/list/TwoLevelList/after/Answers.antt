@@ -12,7 +12,7 @@ pub returns-in-Some : goal.returns-in-Some
 returns-in-Some c =
     let s = opened c.args.self.now.sound in
     record {
-      answer = refused _ _ _ _ s.chain.long _ _ c.after-refusal.ensures c.in-Some.is;
+      answer = refused _ _ _ _ s.chain.long _ _ c.after_refusal.ensures c.in-Some.is;
       items = refl;
       blocks = refl;
       labels = refl;
@@ -23,25 +23,25 @@ returns-in-Some c =
 
 pub index-requires : goal.index-requires
 index-requires c = let s = opened c.args.self.now.sound in
-    let p = granted _ _ _ _ s.chain.long _ c.after-refusal.ensures c.in-default.is in
+    let p = granted _ _ _ _ s.chain.long _ c.after_refusal.ensures c.in_default.is in
     let k = p.known in
     let q = p.room in
     let r = s.room in omega arith
 
-pub first-of-first-requires : goal.first-of-first-requires
-first-of-first-requires c =
+pub first_of-first-requires : goal.first_of-first-requires
+first_of-first-requires c =
     let s = opened c.args.self.now.sound in
-    let p = granted _ _ _ _ s.chain.long _ c.after-refusal.ensures c.in-default.is in
+    let p = granted _ _ _ _ s.chain.long _ c.after_refusal.ensures c.in_default.is in
     let k = p.known in
     let q = p.room in
     let r = s.room in
     let e = c.args.self.now.rows.ok.0 in
     record { room = omega (arith, p.room); known = p.known; back = prev_in s }
 
-pub size-of-size-requires : goal.size-of-size-requires
-size-of-size-requires c =
+pub size_of-size-requires : goal.size_of-size-requires
+size_of-size-requires c =
     let s = opened c.args.self.now.sound in
-    let p = granted _ _ _ _ s.chain.long _ c.after-refusal.ensures c.in-default.is in
+    let p = granted _ _ _ _ s.chain.long _ c.after_refusal.ensures c.in_default.is in
     let k = p.known in
     let q = p.room in
     let r = s.room in
@@ -51,38 +51,38 @@ size-of-size-requires c =
     let k = first_known s d c.args.a p.known p.room in
     record {
       room = omega (arith, p.room);
-      known = subst (λ (q : ℕ). q < c.args.self.now.count) (sym (c.first-of-first.ensures ∙ f)) k;
+      known = subst (λ (q : ℕ). q < c.args.self.now.count) (sym (c.first_of-first.ensures ∙ f)) k;
       next = next_in_lem s;
     }
 
-pub invariant-of-self : goal.invariant-of-self
-invariant-of-self c =
+pub invariant_of-self : goal.invariant_of-self
+invariant_of-self c =
     let s = opened c.args.self.now.sound in
-    let p = granted _ _ _ _ s.chain.long _ c.after-refusal.ensures c.in-default.is in
+    let p = granted _ _ _ _ s.chain.long _ c.after_refusal.ensures c.in_default.is in
     let k = p.known in
     let q = p.room in
     let r = s.room in
     let low : c.args.a < vec_len c.args.self.now.rows = let e = c.args.self.now.rows.ok.0 in omega (arith, p.known, p.room) in
     let g = group_of _ _ _ _ low c.args.self.now.rows.ok.0 c.index.ensures in
     absurd (never s c.args.a p.known p.room (items_within c.args.self.now.groups) _ _ _ g
-    (sym c.in-err-fresh.was ∙ c.group-behind.ensures.answer))
+    (sym c.in_err-fresh.was ∙ c.group_behind.ensures.answer))
 
-pub returns-in-err-fresh : goal.returns-in-err-fresh
-returns-in-err-fresh c =
+pub returns-in_err-fresh : goal.returns-in_err-fresh
+returns-in_err-fresh c =
     let s = opened c.args.self.now.sound in
-    let p = granted _ _ _ _ s.chain.long _ c.after-refusal.ensures c.in-default.is in
+    let p = granted _ _ _ _ s.chain.long _ c.after_refusal.ensures c.in_default.is in
     let k = p.known in
     let q = p.room in
     let r = s.room in
     let low : c.args.a < vec_len c.args.self.now.rows = let e = c.args.self.now.rows.ok.0 in omega (arith, p.known, p.room) in
     let g = group_of _ _ _ _ low c.args.self.now.rows.ok.0 c.index.ensures in
     absurd (never s c.args.a p.known p.room (items_within c.args.self.now.groups) _ _ _ g
-    (sym c.in-err-fresh.was ∙ c.group-behind.ensures.answer))
+    (sym c.in_err-fresh.was ∙ c.group_behind.ensures.answer))
 
 pub link-requires : goal.link-requires
 link-requires c =
     let s = opened c.args.self.now.sound in
-    let p = granted _ _ _ _ s.chain.long _ c.after-refusal.ensures c.in-default.is in
+    let p = granted _ _ _ _ s.chain.long _ c.after_refusal.ensures c.in_default.is in
     let k = p.known in
     let q = p.room in
     let r = s.room in
@@ -94,23 +94,23 @@ link-requires c =
       there = next_in_lem s c.args.a p.known;
     }
 
-pub overflow-add-size : goal.overflow-add-size
-overflow-add-size c =
+pub overflow_add-size : goal.overflow_add-size
+overflow_add-size c =
     let s = opened c.args.self.now.sound in
-    let p = granted _ _ _ _ s.chain.long _ c.after-refusal.ensures c.in-default.is in
+    let p = granted _ _ _ _ s.chain.long _ c.after_refusal.ensures c.in_default.is in
     let k = p.known in
     let q = p.room in
     let r = s.room in
     let low : c.args.a < vec_len c.args.self.now.rows = let e = c.args.self.now.rows.ok.0 in omega (arith, p.known, p.room) in
     let g = group_of _ _ _ _ low c.args.self.now.rows.ok.0 c.index.ensures in
     let z = size_few s c.args.a p.known p.room (items_distinct c.args.self.now.groups) _ g
-    c.first-of-first.result c.size-of-size.result c.first-of-first.ensures c.size-of-size.ensures in
+    c.first_of-first.result c.size_of-size.result c.first_of-first.ensures c.size_of-size.ensures in
     search rules
 
 pub regroup-requires : goal.regroup-requires
 regroup-requires c =
     let s = opened c.args.self.now.sound in
-    let p = granted _ _ _ _ s.chain.long _ c.after-refusal.ensures c.in-default.is in
+    let p = granted _ _ _ _ s.chain.long _ c.after_refusal.ensures c.in_default.is in
     let k = p.known in
     let q = p.room in
     let r = s.room in
@@ -119,47 +119,47 @@ regroup-requires c =
     record {
       within = λ x m.
           let k = ask_within s c.args.a p.known p.room (items_distinct c.args.self.now.groups) _ g
-          c.first-of-first.result c.size-of-size.result c.first-of-first.ensures c.size-of-size.ensures (vec_items c.link.new.rows) c.link.ensures x m in
+          c.first_of-first.result c.size_of-size.result c.first_of-first.ensures c.size_of-size.ensures (vec_items c.link.new.rows) c.link.ensures x m in
           let e = c.link.new.rows.ok.0 in omega arith;
       distinct = ask_distinct s c.args.a p.known p.room (items_distinct c.args.self.now.groups) _ g
-          c.first-of-first.result c.size-of-size.result c.first-of-first.ensures c.size-of-size.ensures (vec_items c.link.new.rows) c.link.ensures;
+          c.first_of-first.result c.size_of-size.result c.first_of-first.ensures c.size_of-size.ensures (vec_items c.link.new.rows) c.link.ensures;
     }
 
-pub invariant-of-self-2 : goal.invariant-of-self-2
-invariant-of-self-2 c =
+pub invariant_of-self-2 : goal.invariant_of-self-2
+invariant_of-self-2 c =
     let s = opened c.args.self.now.sound in
-    let p = granted _ _ _ _ s.chain.long _ c.after-refusal.ensures c.in-default.is in
+    let p = granted _ _ _ _ s.chain.long _ c.after_refusal.ensures c.in_default.is in
     let k = p.known in
     let q = p.room in
     let r = s.room in
     let low : c.args.a < vec_len c.args.self.now.rows = let e = c.args.self.now.rows.ok.0 in omega (arith, p.known, p.room) in
     let g = group_of _ _ _ _ low c.args.self.now.rows.ok.0 c.index.ensures in
     let d =
-    final s c.args.a p.known p.room (items_distinct c.args.self.now.groups) _ g c.first-of-first.result c.size-of-size.result
-    c.first-of-first.ensures c.size-of-size.ensures (items_within c.args.self.now.groups) c.in-ok-fresh.fresh c.group-behind.result
-    c.in-ok-fresh.was (vec_items c.link.new.rows) (vec_items c.regroup.new.rows) (relabelled_items c.group-behind.new.groups)
-    c.group-behind.new.groups.limit (relabelled_entries c.args.self.now.groups) (relabelled_entries c.group-behind.new.groups)
-    (entries_long c.args.self.now.groups) c.group-behind.ensures.answer c.group-behind.ensures.items c.group-behind.ensures.labels
-    c.group-behind.ensures.limit (items_distinct c.group-behind.new.groups) (items_few c.group-behind.new.groups) c.link.ensures
+    final s c.args.a p.known p.room (items_distinct c.args.self.now.groups) _ g c.first_of-first.result c.size_of-size.result
+    c.first_of-first.ensures c.size_of-size.ensures (items_within c.args.self.now.groups) c.in_ok-fresh.fresh c.group_behind.result
+    c.in_ok-fresh.was (vec_items c.link.new.rows) (vec_items c.regroup.new.rows) (relabelled_items c.group_behind.new.groups)
+    c.group_behind.new.groups.limit (relabelled_entries c.args.self.now.groups) (relabelled_entries c.group_behind.new.groups)
+    (entries_long c.args.self.now.groups) c.group_behind.ensures.answer c.group_behind.ensures.items c.group_behind.ensures.labels
+    c.group_behind.ensures.limit (items_distinct c.group_behind.new.groups) (items_few c.group_behind.new.groups) c.link.ensures
     c.regroup.ensures in
-    (∣ d.added.sound ∣₁, tt)
+    record { sound = ∣ d.added.sound ∣₁ }
 
 pub returns : goal.returns
 returns c =
     let s = opened c.args.self.now.sound in
-    let p = granted _ _ _ _ s.chain.long _ c.after-refusal.ensures c.in-default.is in
+    let p = granted _ _ _ _ s.chain.long _ c.after_refusal.ensures c.in_default.is in
     let k = p.known in
     let q = p.room in
     let r = s.room in
     let low : c.args.a < vec_len c.args.self.now.rows = let e = c.args.self.now.rows.ok.0 in omega (arith, p.known, p.room) in
     let g = group_of _ _ _ _ low c.args.self.now.rows.ok.0 c.index.ensures in
     let d =
-    final s c.args.a p.known p.room (items_distinct c.args.self.now.groups) _ g c.first-of-first.result c.size-of-size.result
-    c.first-of-first.ensures c.size-of-size.ensures (items_within c.args.self.now.groups) c.in-ok-fresh.fresh c.group-behind.result
-    c.in-ok-fresh.was (vec_items c.link.new.rows) (vec_items c.regroup.new.rows) (relabelled_items c.group-behind.new.groups)
-    c.group-behind.new.groups.limit (relabelled_entries c.args.self.now.groups) (relabelled_entries c.group-behind.new.groups)
-    (entries_long c.args.self.now.groups) c.group-behind.ensures.answer c.group-behind.ensures.items c.group-behind.ensures.labels
-    c.group-behind.ensures.limit (items_distinct c.group-behind.new.groups) (items_few c.group-behind.new.groups) c.link.ensures
+    final s c.args.a p.known p.room (items_distinct c.args.self.now.groups) _ g c.first_of-first.result c.size_of-size.result
+    c.first_of-first.ensures c.size_of-size.ensures (items_within c.args.self.now.groups) c.in_ok-fresh.fresh c.group_behind.result
+    c.in_ok-fresh.was (vec_items c.link.new.rows) (vec_items c.regroup.new.rows) (relabelled_items c.group_behind.new.groups)
+    c.group_behind.new.groups.limit (relabelled_entries c.args.self.now.groups) (relabelled_entries c.group_behind.new.groups)
+    (entries_long c.args.self.now.groups) c.group_behind.ensures.answer c.group_behind.ensures.items c.group_behind.ensures.labels
+    c.group_behind.ensures.limit (items_distinct c.group_behind.new.groups) (items_few c.group_behind.new.groups) c.link.ensures
     c.regroup.ensures in
     record {
       answer = p.answer;
