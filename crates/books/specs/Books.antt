@@ -4,7 +4,7 @@
 --   book_room     how many keys it can hold
 --   push_answer   the answer of `push`: the key's place; refused 13 where the book is full
 --   keys_after    the keys after a push
---   Prefix       one list of keys begins another
+--   Prefix        one list of keys begins another
 use Rattle.std.specs.Prelude.{◌≡◌, ℕ, cond, List, [], ◌∷◌, ◌++◌, length, take, Ok, Err, Result, nat_lt}
 use Rattle.refusals.specs.declared.kinds.BookRefusal.{BookRefusal}
 use Rattle.refusals.specs.declared.kinds.BookRefusal.TheVariants.{Full}

@@ -1,10 +1,10 @@
 -- The entries that a chain of rows spells, and what a walk or a write keeps of the rows.
 --
---   entry_of, chain       the entries of a chain
---   node                 a row of a chain, by its place
---   Within, Below, Avoids, Once    a chain's rows are in the table, below a number, none of them a given row, all different
---   Chained              all that a walk needs of a chain; nothing of it needs the order
---   Off, Frame, Drawn, Shape       what a write leaves: other rows stay; the chain is made of its own rows and one new; links and versions stay
+--   entry_of, chain               the entries of a chain
+--   node                          a row of a chain, by its place
+--   Within, Below, Avoids, Once   a chain's rows are in the table, below a number, none of them a given row, all different
+--   Chained                       all that a walk needs of a chain; nothing of it needs the order
+--   Off, Frame, Drawn, Shape      what a write leaves: other rows stay; the chain is made of its own rows and one new; links and versions stay
 use Rattle.std.specs.Prelude.{◌≡◌, ℕ, zero, suc, ◌<◌, ◌⊎◌, List, [], ◌∷◌, length, get_or, ◌≢◌, slice_index_or}
 use Rattle.chain_rows.specs.declared.row.EntryRow.{EntryRow}
 use Rattle.fields.specs.declared.kinds.Value.{Value}

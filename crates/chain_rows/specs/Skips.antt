@@ -1,7 +1,7 @@
 -- How far a walk goes that passes the rows before a version, or at and before it.
 --
---   passed     the walk passes a version
---   Skipped    where it stops
+--   passed    the walk passes a version
+--   Skipped   where it stops
 use Rattle.std.specs.Prelude.{◌≡◌, ℕ, ◌-◌, ◌<◌, ◌≤◌, Bool, true, false, cond, List, nat_le, nat_lt, slice_index_or}
 use Rattle.chain_rows.specs.declared.row.EntryRow.{EntryRow}
 use Rattle.chain_rows.specs.Chains.{blank, node}

@@ -1,9 +1,9 @@
 -- What a table of chains keeps, whatever the order says.
 --
 --   chain_at     a chain by its number
---   Apart       no two chains share a row
---   Short       no chain is longer than the rows taken
---   Sound       all of it
+--   Apart        no two chains share a row
+--   Short        no chain is longer than the rows taken
+--   Sound        all of it
 --   tables_fit   a table can be made of so many chains and rows
 use Rattle.std.specs.Prelude.{◌≡◌, ℕ, ◌<◌, ◌≤◌, Bool, List, nat_lt, slice_index_or}
 use Rattle.entries.specs.Entries.{both}

@@ -1,7 +1,7 @@
 -- Where an entry goes in a chain.
 --
---   Passed     the walk has passed the rows that stay before the entry
---   Found      the entry takes the place of a row, or goes before it
+--   Passed   the walk has passed the rows that stay before the entry
+--   Found    the entry takes the place of a row, or goes before it
 use Rattle.std.specs.Prelude.{◌≡◌, ℕ, suc, ◌+◌, ◌-◌, ◌<◌, true, cond, List, ◌∷◌, ◌++◌, slice_index_or}
 use Rattle.chain_rows.specs.declared.row.EntryRow.{EntryRow}
 use Rattle.fields.specs.declared.kinds.Value.{Value}

@@ -1,12 +1,12 @@
 -- What a table of chains says of the entries of a chain, and what a call may alter.
 --
---   entries_of     the entries of a chain
---   asked         a call that the table answers: the chain is there, the version known, and the order has as many versions as the table
---   Alters        one chain becomes a given list, and the others stay
---   Made          the table at its making
---   Adds          a chain without entries comes in
---   Opens         one version more
---   Cuts          a chain is parted at a version, and what stands behind it is a new chain
+--   entries_of   the entries of a chain
+--   asked        a call that the table answers: the chain is there, the version known, and the order has as many versions as the table
+--   Alters       one chain becomes a given list, and the others stay
+--   Made         the table at its making
+--   Adds         a chain without entries comes in
+--   Opens        one version more
+--   Cuts         a chain is parted at a version, and what stands behind it is a new chain
 use Rattle.std.specs.Prelude.{◌≡◌, ℕ, ◌+◌, ◌-◌, ◌<◌, ◌≤◌, Bool, true, cond, List, [], length, vec_items, vec_len, ◌==◌, ◌≢◌, nat_lt}
 use Rattle.fields.specs.declared.kinds.Value.{Value}
 use Rattle.entries.specs.Entries.{Entry, Sorted, both, entries_before, entries_behind}

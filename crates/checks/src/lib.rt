@@ -1,4 +1,5 @@
 // Examples of keys, books and text, each proved and run.
+#![tactic(auto)]
 
 #[cfg(test)]
 mod tests {

@@ -1,9 +1,9 @@
 -- The lines of a comparison.
 --
---   Line        what a line says: build, file, length, fingerprints
---   meaning     the line that a value of the program stands for
---   build_of     the build that a word names
---   line_of      the line that words write, or nothing
+--   Line       what a line says: build, file, length, fingerprints
+--   meaning    the line that a value of the program stands for
+--   build_of   the build that a word names
+--   line_of    the line that words write, or nothing
 use Rattle.std.specs.Prelude.{ℕ, cond, List, Some, None, vec_items, codes, Option}
 use Rattle.std.specs.Str.{bytes_eq}
 use Rattle.text.specs.Numbers.{number_of, numbers_of}

@@ -1,13 +1,13 @@
 -- What a table of copies says of the copies.
 --
---   row_at, next_of         the row of a copy; the copy of its node that begins next
---   copy_of, copies_of      a copy; all copies
---   Placed                each copy has a row, begins at a known version, and its next copy is there
---   SameRows, RowSet      the rows are as they were; one row is another
---   Enters                a copy has other entries
---   held, Holds           the entries of a copy after the version behind a change keeps the old value
---   RedirectsAll, Redirects    fields of a copy, or one, name one copy in place of another from a version on
---   Changes               a field of a copy is changed at a version
+--   row_at, next_of           the row of a copy; the copy of its node that begins next
+--   copy_of, copies_of        a copy; all copies
+--   Placed                    each copy has a row, begins at a known version, and its next copy is there
+--   SameRows, RowSet          the rows are as they were; one row is another
+--   Enters                    a copy has other entries
+--   held, Holds               the entries of a copy after the version behind a change keeps the old value
+--   RedirectsAll, Redirects   fields of a copy, or one, name one copy in place of another from a version on
+--   Changes                   a field of a copy is changed at a version
 use Rattle.std.specs.Prelude.{◌≡◌, ℕ, suc, ◌+◌, ◌<◌, ◌≤◌, Bool, true, cond, List, [], ◌∷◌, length, Some, None, vec_items, vec_len, Option, ◌≢◌, slice_index_or}
 use Rattle.fields.specs.declared.kinds.Value.{Value}
 use Rattle.fields.specs.declared.kinds.Value.TheVariants.{Nil}

@@ -1,8 +1,8 @@
 -- The rows of a table of copies.
 --
---   first_of      the first value of a field
---   stored       a row has a place for the field
---   Renewed      a row in which one first value is another
+--   first_of   the first value of a field
+--   stored     a row has a place for the field
+--   Renewed    a row in which one first value is another
 use Rattle.std.specs.Prelude.{◌≡◌, Bool, true, false, cond, ℕ, eqb, ltb}
 use Rattle.fields.specs.declared.kinds.Value.{Value}
 use Rattle.fields.specs.declared.kinds.Value.TheVariants.{Number, Nil}

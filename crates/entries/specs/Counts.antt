@@ -1,8 +1,8 @@
 -- How many entries a change, a renaming and a split leave.
 --
---   version_at       the version of an entry, by its number
---   SplitHalves    a list of more than 18 entries, parted at the version of its middle entry
---   PutAdds, RenamedAdds    at most one entry comes in, and none is lost
+--   version_at             the version of an entry, by its number
+--   SplitHalves            a list of more than 18 entries, parted at the version of its middle entry
+--   PutAdds, RenamedAdds   at most one entry comes in, and none is lost
 use Rattle.std.specs.Prelude.{ℕ, zero, suc, ◌+◌, ◌-◌, ◌/◌, ◌<◌, ◌≤◌, Bool, cond, List, [], ◌∷◌, length}
 use Rattle.fields.specs.declared.kinds.Value.{Value}
 use Rattle.entries.specs.Entries.{Entry, read, Sorted, entries_before, entries_behind, put, renamed}

@@ -1,14 +1,14 @@
 -- A copy's entries: how a field's value is read from them at a version, and how they are changed, renamed and parted.
 --
---   Entry                  a version, a field and the value that the field takes there
---   read                   the value of a field at a position: that of the last entry at or before it, else the first value
---   AllFrom, Sorted        the entries stand in the order of their versions
---   Lacks, Single          at most one entry for each field and version
---   sets, has              an entry of a field at a position
---   EachVersion            something holds of each entry's version
---   put, keep              an entry is written; an entry is added unless there is one
---   entries_before, entries_behind     the entries before and behind a position
---   mapped, renamed        the values of a field are replaced from a version on
+--   Entry                                           a version, a field and the value that the field takes there
+--   read                                            the value of a field at a position: that of the last entry at or before it, else the first value
+--   AllFrom, Sorted                                 the entries stand in the order of their versions
+--   Lacks, Single                                   at most one entry for each field and version
+--   sets, has                                       an entry of a field at a position
+--   EachVersion                                     something holds of each entry's version
+--   put, keep                                       an entry is written; an entry is added unless there is one
+--   entries_before, entries_behind                  the entries before and behind a position
+--   mapped, renamed                                 the values of a field are replaced from a version on
 --   SplitReads, PutReads, KeepReads, RenamedReads   what is read after each of these
 --
 -- Versions are compared by where they stand in the order: pos gives the position of a version. The values are of any type V.

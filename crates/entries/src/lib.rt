@@ -1,5 +1,7 @@
 // Entry lists: the theory of reading a field at a version, and of writing, renaming and parting the entries. No code of tables;
 // each function below states theorems, which its proof gives.
+#![tactic(auto)]
+
 ghost use Rattle.entries.specs.Counts.{PutAdds, RenamedAdds, SplitHalves};
 ghost use Rattle.entries.specs.Entries.{KeepReads, PutReads, RenamedReads, SplitReads};
 

@@ -1,10 +1,10 @@
 -- The fields of a copy, numbered, and what each may hold.
 --
---   link, back, number   the number of a field, by its kind
+--   link, back, number                    the number of a field, by its kind
 --   is_nil, is_number, is_link, is_back   what kind of value a value is
---   suits                a field of a copy may hold a value
---   HasLink              a copy has such a link
---   Shown                a field that belongs to a version's state: a link or a number, no back link
+--   suits                                 a field of a copy may hold a value
+--   HasLink                               a copy has such a link
+--   Shown                                 a field that belongs to a version's state: a link or a number, no back link
 --
 -- There are three kinds of fields. A link names a node: a node has the links 0 and 1, left and right; the root record has the
 -- links 0, 1 and 2, which are the roots. A back link says by which link its node is named: a node has the back links 0 and 1,

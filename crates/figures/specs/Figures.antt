@@ -2,7 +2,7 @@
 --
 --   KeyFigures     which of two jobs and of two names goes first
 --   PieceFigures   how many pieces some files have
---   Figures         all of them; capacities and labels of version orders are stated in crate `labels`
+--   Figures        all of them; capacities and labels of version orders are stated in crate `labels`
 use Rattle.std.specs.Prelude.{◌≡◌, true, codes, pos}
 use Rattle.keys.specs.Orders.{job_first}
 use Rattle.keys.specs.Bytes.{bytes_first}

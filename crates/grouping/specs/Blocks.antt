@@ -1,14 +1,14 @@
 -- Items in groups: the groups first to last, each with its items first to last.
 --
---   flat               the items of all groups, first to last
---   divided            a group that would reach 33 keeps its first 16 and puts 17 into a new group right behind
---   blocks_with         the groups with a new item right behind another, in its group
---   blocks_after        the groups after a call that answered with a new item's number or was refused
---   home               the items of the group that has an item
---   group_entries_after  the groups with their labels after such a call
---   in_group, blocks_of  the items of a list, group by group
---   Inside, Ranks      the items of a group lie in it, and their ranks rise
---   Block, Grouped     the items of a group, and of all groups
+--   flat                  the items of all groups, first to last
+--   divided               a group that would reach 33 keeps its first 16 and puts 17 into a new group right behind
+--   blocks_with           the groups with a new item right behind another, in its group
+--   blocks_after          the groups after a call that answered with a new item's number or was refused
+--   home                  the items of the group that has an item
+--   group_entries_after   the groups with their labels after such a call
+--   in_group, blocks_of   the items of a list, group by group
+--   Inside, Ranks         the items of a group lie in it, and their ranks rise
+--   Block, Grouped        the items of a group, and of all groups
 use Rattle.std.specs.Prelude.{◌≡◌, ℕ, suc, ◌<◌, ◌≤◌, cond, List, [], ◌∷◌, ◌++◌, length, take, drop, Ok, Err, Result, ◌==◌, nat_lt}
 use Rattle.order.specs.Items.{member, behind}
 use Rattle.labels.specs.Labels.{Entries, inserted}

@@ -1,15 +1,15 @@
 -- A table of rows, by item number, as items in groups.
 --
---   blank                            the row of item 0 alone, in group 0
---   group_at, rank_at, next_at, prev_at  what the row of an item holds
---   listed                           the items of a table, first to last
---   key                              by what items are compared: the position of the group, then the rank
---   blocked                          the items of a table, group by group
---   Sound                            a table of `count` items in groups, up to a limit
---   run_of                            the items of a group from one on
---   back_step, back_to, first_of        the first item of a group, found from one of its items
---   back_row, linked_rows              the rows once a new item was linked in
---   regrouped                        the rows once a run of items was numbered anew, and divided
+--   blank                                 the row of item 0 alone, in group 0
+--   group_at, rank_at, next_at, prev_at   what the row of an item holds
+--   listed                                the items of a table, first to last
+--   key                                   by what items are compared: the position of the group, then the rank
+--   blocked                               the items of a table, group by group
+--   Sound                                 a table of `count` items in groups, up to a limit
+--   run_of                                the items of a group from one on
+--   back_step, back_to, first_of          the first item of a group, found from one of its items
+--   back_row, linked_rows                 the rows once a new item was linked in
+--   regrouped                             the rows once a run of items was numbered anew, and divided
 use Rattle.std.specs.Prelude.{◌≡◌, ℕ, zero, suc, ◌+◌, ◌*◌, ◌<◌, ◌≤◌, cond, List, [], ◌∷◌, length, set, Some, None, Option, ◌==◌, nat_lt, slice_index_or, slice_set}
 use Rattle.order.specs.Items.{position}
 use Rattle.linked_lists.specs.Chain.{Chain, walk}

@@ -1,7 +1,7 @@
 -- The laws of groups.
 --
---   GroupsHoldTheList  a new item stands right behind the other in the list that the groups hold
---   Small                 all groups have 1 to 32 items
+--   GroupsHoldTheList   a new item stands right behind the other in the list that the groups hold
+--   Small               all groups have 1 to 32 items
 --   GroupsStaySmall     they still have after a new item
 use Rattle.std.specs.Prelude.{◌≡◌, ℕ, ◌<◌, ◌≤◌, List, [], ◌∷◌, length}
 use Rattle.order.specs.Items.{Distinct, behind}

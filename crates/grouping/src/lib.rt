@@ -1,4 +1,6 @@
 // Items in groups of at most 32: what rows of such items mean, what each write to them leaves, and the laws of groups.
+#![tactic(auto)]
+
 ghost use Rattle.grouping.specs.Laws.{GroupsHoldTheList, GroupsStaySmall};
 
 pub mod item;

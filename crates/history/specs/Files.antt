@@ -1,8 +1,8 @@
 -- Recording all pieces of a file.
 --
---   noted         a piece with its fingerprint
+--   noted          a piece with its fingerprint
 --   file_pieces    the pieces of a file with their fingerprints, numbered from k on
---   fits          a book has room for them, and each has a number of 32 bits
+--   fits           a book has room for them, and each has a number of 32 bits
 --   file_answer    the answer of `note_file`: refused 13 where they do not fit
 --   pieces_after   what is recorded after it
 use Rattle.std.specs.Prelude.{ℕ, suc, ◌+◌, ◌^◌, Bool, cond, ◌&&◌, List, [], ◌∷◌, ◌++◌, length, Ok, Err, Result, nat_le, nat_lt}

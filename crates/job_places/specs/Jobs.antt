@@ -1,8 +1,8 @@
 -- Jobs as places of a book that grows.
 --
---   InBook           every job of a heap is a place below a number, such as the length of the book
+--   InBook          every job of a heap is a place below a number, such as the length of the book
 --   QueuesOutlast   queues whose jobs are in the book stand as before when the book has more keys
---   Stay             the heaps that push, pop and release leave have their jobs in the book, too
+--   Stay            the heaps that push, pop and release leave have their jobs in the book, too
 --   JobsStay        they do, by every order of keys
 use Rattle.std.specs.Prelude.{ℕ, ◌<◌, Bool, List, ◌++◌, length}
 use Rattle.trees.specs.Trees.{Tree, leaf, node}

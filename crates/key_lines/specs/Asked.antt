@@ -1,6 +1,6 @@
 -- Which of two keys goes first, asked by a line of text.
 --
---   which         the answer, from whether each goes before the other
+--   which          the answer, from whether each goes before the other
 --   piece_answer   the answer to `piece F P F P`, or nothing where the line is none such
 --   job_answer     the answer to `job U N U N`, or nothing
 --   name_answer    the answer to `name "A" "B"`, or nothing; refused 14 where A or B has 0 or more than 16 bytes

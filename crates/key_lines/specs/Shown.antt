@@ -1,6 +1,6 @@
 -- Answers to lines of two keys as text.
 --
---   which_text       which of two keys goes first
+--   which_text        which of two keys goes first
 --   key_answer_text   an answer to a line
 use Rattle.std.specs.Prelude.{ℕ, List, ◌++◌, codes, decimal}
 use Rattle.refusals.specs.Numbers.{name_number}

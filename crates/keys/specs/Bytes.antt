@@ -1,7 +1,7 @@
 -- Strings of bytes: their order, and how a name's bytes are kept.
 --
 --   bytes_first   one string goes before another: byte by byte, a prefix first
---   padded       the string filled up with zeros to 16 bytes
+--   padded        the string filled up with zeros to 16 bytes
 use Rattle.std.specs.Prelude.{ℕ, ◌-◌, Bool, true, false, cond, List, [], ◌∷◌, ◌++◌, length, replicate, ◌==◌, nat_lt}
 
 -- a goes before b: at the first byte in which they differ a has the smaller one, or a is a proper prefix of b

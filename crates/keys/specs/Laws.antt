@@ -1,8 +1,8 @@
 -- What the definitions of keys say, in the subject's own words.
 --
---   PiecesCover               a file's pieces are the fewest that hold all its bytes
---   EqualNamesAreOne        names with the same bytes are the same value
---   NamesByFirstDifference  which of two strings of bytes goes first, without a recursion
+--   PiecesCover              a file's pieces are the fewest that hold all its bytes
+--   EqualNamesAreOne         names with the same bytes are the same value
+--   NamesByFirstDifference   which of two strings of bytes goes first, without a recursion
 use Rattle.std.specs.Prelude.{◌≡◌, ℕ, ◌*◌, ◌<◌, ◌≤◌, true, ◌⊎◌, List, ◌∷◌, ◌++◌, length}
 use Rattle.keys.specs.declared.name.NameKey.{NameKey}
 use Rattle.keys.specs.Pieces.{piece_bytes, pieces}

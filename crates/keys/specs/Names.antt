@@ -1,7 +1,7 @@
 -- Names.
 --
 --   name_bytes   the bytes of a name
---   Named       what making a name of some bytes answers: refused 14 unless there are 1 to 16
+--   Named        what making a name of some bytes answers: refused 14 unless there are 1 to 16
 use Rattle.std.specs.Prelude.{◌≡◌, ℕ, ◌≤◌, List, length, take, Ok, Err, Result}
 use Rattle.refusals.specs.declared.kinds.NameRefusal.{NameRefusal}
 use Rattle.refusals.specs.declared.kinds.NameRefusal.TheVariants.{Length}

@@ -1,7 +1,7 @@
 -- The pieces of a file.
 --
 --   piece_bytes   the bytes of a piece
---   pieces       how many pieces a file has
+--   pieces        how many pieces a file has
 use Rattle.std.specs.Prelude.{ℕ, ◌+◌, ◌-◌, ◌/◌}
 
 -- a piece has 64 KiB; the last one of a file may have fewer

@@ -1,6 +1,6 @@
 -- How many items an aligned range of labels may hold.
 --
---   capacity  of a range of 2 ^ i labels
+--   capacity   of a range of 2 ^ i labels
 --   room_of    the same as a table of 32 numbers answers it
 use Rattle.std.specs.Prelude.{ℕ, ◌/◌, ◌^◌, cond, nat_lt}
 

@@ -1,7 +1,7 @@
 -- Worked figures of capacities and labels.
 --
---   CapacityFigures  four capacities
---   LabelFigures     labels of items that were put right behind item 0
+--   CapacityFigures   four capacities
+--   LabelFigures      labels of items that were put right behind item 0
 use Rattle.std.specs.Prelude.{◌≡◌}
 use Rattle.labels.specs.Capacity.{capacity}
 use Rattle.labels.specs.Labels.{label_of, behind_zero}

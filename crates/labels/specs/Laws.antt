@@ -1,9 +1,9 @@
 -- The laws of the labels, for lists of up to 4096 items.
 --
 --   Rising          the labels of a list rise strictly, below 2 ^ 31
---   AlwaysRoom     some aligned range can always take one item more
---   SmallestRange  the range that is taken is the smallest that can
---   LabelsRise     a new item leaves the labels rising
+--   AlwaysRoom      some aligned range can always take one item more
+--   SmallestRange   the range that is taken is the smallest that can
+--   LabelsRise      a new item leaves the labels rising
 use Rattle.std.specs.Prelude.{◌≡◌, ℕ, suc, ◌^◌, ◌<◌, ◌≤◌, true, [], ◌∷◌, length}
 use Rattle.order.specs.Items.{member}
 use Rattle.labels.specs.Capacity.{capacity}

@@ -1,8 +1,8 @@
 -- Labels around a range, as a spread meets them.
 --
---   first_from  the first item of a range
---   next_low    the least label that may follow another
---   Loose      the labels rise, but for ties inside the range
+--   first_from   the first item of a range
+--   next_low     the least label that may follow another
+--   Loose        the labels rise, but for ties inside the range
 use Rattle.std.specs.Prelude.{ℕ, suc, ◌^◌, ◌≤◌, cond, [], ◌∷◌, nat_le}
 use Rattle.labels.specs.Labels.{Entries, in_range}
 

@@ -1,4 +1,6 @@
 // The labels of a relabelled list: how many items a range of labels may hold, which label each item has, and the laws of both.
+#![tactic(auto)]
+
 ghost use Rattle.std.specs.Prelude.{◌≡◌, ℕ, Result};
 ghost use Rattle.refusals.specs.declared.kinds.OrderRefusal.{OrderRefusal};
 ghost use Rattle.labels.specs.Capacity.{room_of};

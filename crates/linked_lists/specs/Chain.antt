@@ -1,15 +1,15 @@
 -- A table of rows, by item number, as a list of items: the links lead through them all, and the labels rise.
 --
---   blank                    the row of an item that stands alone, with label 0
---   label_at, next_at, prev_at  what the row of an item holds
---   walk                     the items that links lead through
---   listed                   the items of a table, first to last
---   labelled                 the same, each with its label
---   Linked, Backed           the links lead along a list and back
---   Above                    the labels rise along a list
---   Chain, Chained           a list holds the items, each once, in the order of links and labels
---   Sound                    a table of `count` items, up to a limit
---   back_row, linked_rows      the rows once a new item was linked in
+--   blank                        the row of an item that stands alone, with label 0
+--   label_at, next_at, prev_at   what the row of an item holds
+--   walk                         the items that links lead through
+--   listed                       the items of a table, first to last
+--   labelled                     the same, each with its label
+--   Linked, Backed               the links lead along a list and back
+--   Above                        the labels rise along a list
+--   Chain, Chained               a list holds the items, each once, in the order of links and labels
+--   Sound                        a table of `count` items, up to a limit
+--   back_row, linked_rows        the rows once a new item was linked in
 use Rattle.std.specs.Prelude.{◌≡◌, ℕ, zero, suc, ◌^◌, ◌<◌, ◌≤◌, true, List, [], ◌∷◌, length, set, Some, None, Option, slice_index_or, slice_set}
 use Rattle.order.specs.Items.{member}
 use Rattle.labels.specs.Labels.{Entries, marked}

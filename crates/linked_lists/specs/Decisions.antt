@@ -1,7 +1,7 @@
 -- What makers and calls decide before they touch a table.
 --
---   maker_refusal  the refusal of the maker of a version order, or none
---   after_refusal  the refusal of a new item, or none; 31 before 32
+--   maker_refusal   the refusal of the maker of a version order, or none
+--   after_refusal   the refusal of a new item, or none; 31 before 32
 use Rattle.std.specs.Prelude.{ℕ, Bool, cond, ◌||◌, Some, None, Option, nat_lt}
 use Rattle.refusals.specs.declared.kinds.MakerRefusal.{MakerRefusal}
 use Rattle.refusals.specs.declared.kinds.MakerRefusal.TheVariants.{LimitOutOfRange, TableTooShort}

@@ -1,7 +1,7 @@
 -- Ranges of labels in a table of rows.
 --
---   Around      a range is the aligned one around a label
---   Spreadable  the rows hold a range whose items are to be spread over it
+--   Around       a range is the aligned one around a label
+--   Spreadable   the rows hold a range whose items are to be spread over it
 use Rattle.std.specs.Prelude.{◌≡◌, ℕ, ◌+◌, ◌^◌, ◌<◌, ◌≤◌, true, List, Some}
 use Rattle.order.specs.Items.{member, Distinct}
 use Rattle.labels.specs.Labels.{Entries, count_in, base_of, crowd}

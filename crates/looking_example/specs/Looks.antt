@@ -1,7 +1,7 @@
 -- Looking at another version and coming back, as an example of code over a versioned memory.
 --
---   root_nil_of     the steps that ask whether root 0 is nil
---   look_answer    whether root 0 of a version is nil; 31 where the version is unknown
+--   root_nil_of   the steps that ask whether root 0 is nil
+--   look_answer   whether root 0 of a version is nil; 31 where the version is unknown
 --   Resting       a memory at rest at a version
 --   Looks         the answer of a look, and that it leaves the memory equal to what it was
 use Rattle.std.specs.Prelude.{◌≡◌, ℕ, Bool, cond, Ok, Err, Result, nat_lt}

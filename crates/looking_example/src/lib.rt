@@ -1,4 +1,6 @@
 // A look at another version: code that enters a version, asks, and comes back leaves the memory equal to what it was.
+#![tactic(auto)]
+
 ghost use Rattle.memory.specs.Memory.{Memory};
 ghost use Rattle.memory.specs.Promises.{Runs, Carries};
 ghost use Rattle.looking_example.specs.Looks.{root_nil_of, Looks, Resting};

@@ -1,8 +1,8 @@
 -- The first entry above a key, as a pair.
 --
 --   as_pair        an entry, if there is one, as its key's place and its value
---   next_pair_of    the steps that answer the first entry above a key as such a pair
---   NextPaired   they are the steps of `next_of`, and then its answer as a pair
+--   next_pair_of   the steps that answer the first entry above a key as such a pair
+--   NextPaired     they are the steps of `next_of`, and then its answer as a pair
 use Rattle.std.specs.Prelude.{◌≡◌, ℕ, Bool, Some, None, Option}
 use Rattle.trees.specs.Trees.{Entry}
 use Rattle.memory.specs.Memory.{Memory}

@@ -1,5 +1,7 @@
 // The map's calls that read it or replace a value, over any key type, memory and order. Each runs its row of steps, from whatever its
 // memory means.
+#![tactic(auto)]
+
 ghost use Rattle.std.specs.Prelude.{ℕ, ◌-◌, Bool};
 ghost use Rattle.books.specs.Books.{book_keys};
 ghost use Rattle.memory.specs.Promises.{Runs};

@@ -1,6 +1,8 @@
 // The fix-ups of a removal from the map's tree, over any memory and any order. Each runs its row of steps, from whatever its memory means;
 // where it answers, it tells whether the tree under register d is one black node short. Register d holds the root of the subtree at
 // depth d, and register 35 is nil.
+#![tactic(auto)]
+
 ghost use Rattle.memory.specs.Promises.{Runs};
 ghost use Rattle.stored.specs.Stored.{colour};
 ghost use Rattle.map_steps.specs.Remove.{tilt_of, spin_of, pass_up_of, sibling_fix_of, regraft_of, red_sibling_of, short_fix_of, step_up_of};

@@ -1,4 +1,6 @@
 // Insertion into the map's tree, over any key type, memory and order. Each call runs its row of steps, from whatever its memory means.
+#![tactic(auto)]
+
 ghost use Rattle.std.specs.Prelude.{◌≡◌, ◌-◌, ◌<◌, ◌||◌};
 ghost use Rattle.books.specs.Books.{book_keys};
 ghost use Rattle.memory.specs.Promises.{Runs};

@@ -1,10 +1,10 @@
 -- What the map's reading calls answer, in terms of its keys and values.
 --
---   keyed          a list of places with their values, as keys with their values
---   InBook         every place of a list is written in the book
---   Told           an answer, and a memory of which only registers have changed
---   GetsValue     the value of a key, or nothing
---   GetsAbove     the place and value of the first key above a key, or nothing
+--   keyed       a list of places with their values, as keys with their values
+--   InBook      every place of a list is written in the book
+--   Told        an answer, and a memory of which only registers have changed
+--   GetsValue   the value of a key, or nothing
+--   GetsAbove   the place and value of the first key above a key, or nothing
 use Rattle.std.specs.Prelude.{◌≡◌, ℕ, ◌<◌, ◌≤◌, Bool, List, [], ◌∷◌, length, Ok, Option, Result}
 use Rattle.refusals.specs.declared.kinds.MemoryRefusal.{MemoryRefusal}
 use Rattle.trees.specs.Trees.{Tree, Entry, entry, entries}

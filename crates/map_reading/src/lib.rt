@@ -1,4 +1,6 @@
 // The map's reading calls, by what they answer of its keys and values.
+#![tactic(auto)]
+
 ghost use Rattle.books.specs.Books.{book_keys};
 ghost use Rattle.memory.specs.Memory.{Memory};
 ghost use Rattle.map_reading.specs.Reading.{GetsValue, GetsAbove};

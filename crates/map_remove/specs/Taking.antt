@@ -1,8 +1,8 @@
 -- Parts of the rows of a removal, as the code is cut. Register k is the one below register d.
 --
---   unlink_of      the links of the node in register 36 as it leaves its place
---   first_body     one level of the way to the first node
---   remove_body    one level of the way to a key
+--   unlink_of     the links of the node in register 36 as it leaves its place
+--   first_body    one level of the way to the first node
+--   remove_body   one level of the way to a key
 use Rattle.std.specs.Prelude.{ℕ, Bool, true, false, cond, Option}
 use Rattle.memory.specs.Memory.{Memory}
 use Rattle.memory.specs.Steps.{Done, then, follow_of, key_of, nil_of}

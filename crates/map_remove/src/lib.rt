@@ -1,6 +1,8 @@
 // Removal from the map's tree, over any key, any memory and any order. Each function runs its row of steps, from whatever its memory means;
 // where it answers, it tells whether the tree under register d is one black node short. Register d holds the root of the subtree at
 // depth d, at most 24, and register 35 is nil.
+#![tactic(auto)]
+
 ghost use Rattle.memory.specs.Promises.{Runs};
 ghost use Rattle.books.specs.Books.{book_keys};
 ghost use Rattle.places.specs.Places.{way_from};

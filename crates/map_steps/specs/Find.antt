@@ -1,12 +1,12 @@
 -- The steps that only read the map, and the one that replaces a value.
 --
---   on_found        what is done with a register that was found, or without one
---   find_of         the register that holds the node with a key, or nothing; from the subtree under a register
---   lookup_of       the same, from root 0
---   get_of          the value of a key, or nothing
---   set_of          a key that is there gets a value; answers whether it is there
---   seek_of         the register that holds the first node above a key, or the best so far
---   next_of         the first entry above a key, or nothing
+--   on_found    what is done with a register that was found, or without one
+--   find_of     the register that holds the node with a key, or nothing; from the subtree under a register
+--   lookup_of   the same, from root 0
+--   get_of      the value of a key, or nothing
+--   set_of      a key that is there gets a value; answers whether it is there
+--   seek_of     the register that holds the first node above a key, or the best so far
+--   next_of     the first entry above a key, or nothing
 use Rattle.std.specs.Prelude.{ℕ, zero, suc, Bool, true, false, cond, Some, None, Option}
 use Rattle.refusals.specs.declared.kinds.MemoryRefusal.TheVariants.{OutOfRange}
 use Rattle.trees.specs.Trees.{Entry, entry}

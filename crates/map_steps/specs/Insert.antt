@@ -4,8 +4,8 @@
 --   recolour_of      a red child and its red sibling become black, their parent red
 --   straighten_of    the inner grandchild is rotated outwards
 --   raise_of         the child is rotated above its parent, and they exchange colours
---   insert_fix_of     a red child with a red child of its own is put right under a black parent
---   insert_step_of    one level of an insertion
+--   insert_fix_of    a red child with a red child of its own is put right under a black parent
+--   insert_step_of   one level of an insertion
 --   insert_of        a new node with a key's place, a value and the colour red, at the bottom of the way to its key
 --   add_of           the whole: from root 0, which ends black
 use Rattle.std.specs.Prelude.{ℕ, zero, suc, Bool, true, false, cond, not, ◌||◌, ◌==◌}

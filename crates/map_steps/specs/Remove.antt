@@ -1,19 +1,19 @@
 -- The steps that remove a key from the map's tree. Register d holds the root of the subtree at depth d, register d + 1 its child; register
 -- 35 is nil. A row answers whether the tree that it leaves under its register is one black node short.
 --
---   tilt_of, spin_of     a sibling's red child is rotated outwards; the sibling is rotated above its parent
---   sibling_fix_of       a side that is short, beside a black sibling
---   regraft_of          the child on a side, cut off while it is put right
---   short_fix_of         a side that is short
---   step_up_of           one level of a removal: the child is linked again, and its side put right
---   spliced_of          a node is gone, and what was below it stands in its place
---   take_of             a node with one child at most leaves its place, into register 36
---   first_of            the first node of a tree leaves its place, into register 36
---   replace_of          the node of register 36 takes the place of another
---   root_out_of          the root of a tree is taken out
---   way_to              on which side of a place a key lies, or nothing where it is there
---   remove_of           the node with a key is taken out
---   drop_of             the whole, from root 0
+--   tilt_of, spin_of   a sibling's red child is rotated outwards; the sibling is rotated above its parent
+--   sibling_fix_of     a side that is short, beside a black sibling
+--   regraft_of         the child on a side, cut off while it is put right
+--   short_fix_of       a side that is short
+--   step_up_of         one level of a removal: the child is linked again, and its side put right
+--   spliced_of         a node is gone, and what was below it stands in its place
+--   take_of            a node with one child at most leaves its place, into register 36
+--   first_of           the first node of a tree leaves its place, into register 36
+--   replace_of         the node of register 36 takes the place of another
+--   root_out_of        the root of a tree is taken out
+--   way_to             on which side of a place a key lies, or nothing where it is there
+--   remove_of          the node with a key is taken out
+--   drop_of            the whole, from root 0
 use Rattle.std.specs.Prelude.{ℕ, zero, suc, Bool, true, false, cond, not, ◌||◌, Some, None, Option}
 use Rattle.refusals.specs.declared.kinds.MemoryRefusal.TheVariants.{OutOfRange}
 use Rattle.memory.specs.Memory.{Memory}

@@ -1,5 +1,7 @@
 // The map's rows of steps, and what they do to the whole working state. Each function here names theorems by its contract; nothing of
 // it is run.
+#![tactic(auto)]
+
 ghost use Rattle.map_steps.specs.Theorems.{AddInserts, DropRemoves, SetReplaces, GetAnswers, NextAnswers};
 
 // A new key is put into the map, and the value of a key that is there is replaced.

@@ -1,6 +1,6 @@
 -- The map while its book grows.
 --
---   Grown        the map stands over the longer book, and its keys and values are the same
+--   Grown       the map stands over the longer book, and its keys and values are the same
 --   BookGrows   keys that are added to the book leave the map as it is
 use Rattle.std.specs.Prelude.{◌≡◌, ℕ, Bool, List, ◌++◌, length}
 use Rattle.trees.specs.Trees.{Tree, entries}

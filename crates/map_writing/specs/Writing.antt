@@ -3,8 +3,8 @@
 --   NewMap          the map's list has a key's value set, the invariant holds again, and an update's worth was spent
 --   Replaced        the answer whether a key is there, and what has become of the map
 --   Added           a new key is in the map
---   ReplacesValue  a key that is there gets a value; where it is not, nothing but registers changes
---   AddsKey        a key that is not there, but in the book, gets a node and a value
+--   ReplacesValue   a key that is there gets a value; where it is not, nothing but registers changes
+--   AddsKey         a key that is not there, but in the book, gets a node and a value
 use Rattle.std.specs.Prelude.{◌≡◌, ℕ, ◌<◌, Bool, true, false, List, length, is_some, Some, None, Ok, Result}
 use Rattle.std.specs.List.{slice_get}
 use Rattle.refusals.specs.declared.kinds.MemoryRefusal.{MemoryRefusal}

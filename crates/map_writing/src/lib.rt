@@ -1,4 +1,6 @@
 // The map's writing calls, by what they leave of its keys and values.
+#![tactic(auto)]
+
 ghost use Rattle.books.specs.Books.{book_keys};
 ghost use Rattle.memory.specs.Memory.{Memory};
 ghost use Rattle.map_writing.specs.Writing.{ReplacesValue, AddsKey};

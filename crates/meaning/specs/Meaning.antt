@@ -1,14 +1,14 @@
 -- What a splitting memory means as an abstract memory, and that each call steps as the abstract memory does.
 --
---   ref, graph_of     a state of the abstract memory, with its roots as the links of serial number 0
---   world_of          the world of the theory of space
---   RegisterHolds    a register's copy is that of the serial number which the abstract register holds
---   Stands           a splitting memory stands for an abstract memory
---   Agrees           two steps agree: same answer, same refusal, and what is left stands for what is left
---   FreshStands     a fresh memory
---   ReadsAgree, WritesAgree, VersionsAgree     the calls
---   SplitStands     a split leaves a memory that stands for the same
---   StandsSpaced    the bounds on copies and entries
+--   ref, graph_of                            a state of the abstract memory, with its roots as the links of serial number 0
+--   world_of                                 the world of the theory of space
+--   RegisterHolds                            a register's copy is that of the serial number which the abstract register holds
+--   Stands                                   a splitting memory stands for an abstract memory
+--   Agrees                                   two steps agree: same answer, same refusal, and what is left stands for what is left
+--   FreshStands                              a fresh memory
+--   ReadsAgree, WritesAgree, VersionsAgree   the calls
+--   SplitStands                              a split leaves a memory that stands for the same
+--   StandsSpaced                             the bounds on copies and entries
 use Rattle.std.specs.Prelude.{◌≡◌, ℕ, zero, suc, ◌+◌, ◌-◌, ◌*◌, ◌<◌, ◌≤◌, Bool, true, cond, List, [], ◌∷◌, length, is_some, Some, None, Option, ◌≢◌, nat_lt}
 use Rattle.fields.specs.declared.kinds.Value.{Value}
 use Rattle.fields.specs.declared.kinds.Value.TheVariants.{Number, Nil, To}

@@ -1,13 +1,13 @@
 -- What a splitting memory holds, and what each call does to it.
 --
---   Splitting        the copies, the registers, the working version and the draft, what was counted, the limits
---   Step, did, refused     what a call comes to
---   check, at_copy    the conditions of a call, each with its refusal
---   read_of           what a field of a copy holds at the working version
---   target, numeral  a link's copy; a number
---   load_in, follow_in, move_in, key_in, number_in, nil_in, same_in, make_in, save_in, link_in, set_number_in, open_in, enter_in, close_in     the calls
---   split_in          the split of a copy, with the registers
---   Settled          no copy of a node has more than 18 entries
+--   Splitting                                                                                                                                the copies, the registers, the working version and the draft, what was counted, the limits
+--   Step, did, refused                                                                                                                       what a call comes to
+--   check, at_copy                                                                                                                           the conditions of a call, each with its refusal
+--   read_of                                                                                                                                  what a field of a copy holds at the working version
+--   target, numeral                                                                                                                          a link's copy; a number
+--   load_in, follow_in, move_in, key_in, number_in, nil_in, same_in, make_in, save_in, link_in, set_number_in, open_in, enter_in, close_in   the calls
+--   split_in                                                                                                                                 the split of a copy, with the registers
+--   Settled                                                                                                                                  no copy of a node has more than 18 entries
 --
 -- Registers hold copies, not serial numbers. A call that writes is followed by splits until the memory is settled; the order of these
 -- splits is free. xs is the list of the version order.

@@ -1,5 +1,7 @@
 // Meaning: a splitting memory steps as the abstract memory does, call by call, and within its space. No code of tables; each function
 // below states theorems, which its proof gives.
+#![tactic(auto)]
+
 ghost use Rattle.meaning.specs.Meaning.{FreshStands, ReadsAgree, SplitStands, StandsSpaced, VersionsAgree, WritesAgree};
 
 // A fresh memory stands for the fresh abstract memory, and each call steps as the abstract memory does.

@@ -1,8 +1,8 @@
 -- All calls of a memory in one type, so that a law can speak of any call, and of any run of calls.
 --
---   Call      a call with its arguments
---   left      the memory that a step leaves: refused, the one before
---   after     the memory after a call
+--   Call       a call with its arguments
+--   left       the memory that a step leaves: refused, the one before
+--   after      the memory after a call
 --   run_of     the memory after a list of calls
 --   is_lower   whether a call belongs to the pointer memory
 use Rattle.std.specs.Prelude.{◌≡◌, ℕ, Bool, true, false, List, [], ◌∷◌}

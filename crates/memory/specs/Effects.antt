@@ -1,11 +1,11 @@
 -- What single writes and whole rows of steps leave, for proofs about rows of calls.
 --
---   Ends       a row of steps is accepted to its end, with a property of its answer and of the memory after it
---   Holds      a register holds a node
---   Free       a write is allowed, and a change is left
---   Changed    so many writes of either kind were made, and only the working state may be another
---   Wrote      one node has become another
---   Linked, Numbered, Rooted    a link, a number, a root was written
+--   Ends                       a row of steps is accepted to its end, with a property of its answer and of the memory after it
+--   Holds                      a register holds a node
+--   Free                       a write is allowed, and a change is left
+--   Changed                    so many writes of either kind were made, and only the working state may be another
+--   Wrote                      one node has become another
+--   Linked, Numbered, Rooted   a link, a number, a root was written
 use Rattle.std.specs.Prelude.{◌≡◌, ℕ, ◌+◌, ◌<◌, true, Some, Option, ◌≢◌}
 use Rattle.memory.specs.Memory.{Node, Memory, changed, hits, with_link, with_number}
 use Rattle.memory.specs.Steps.{Done, done, no}

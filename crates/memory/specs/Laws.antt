@@ -1,15 +1,15 @@
 -- The laws of a memory. They hold of every sound memory, and every memory that calls make of a fresh one is sound.
 --
---   StaysSound, RunsSound    every call keeps a memory sound; so every run from a fresh memory is sound
---   TrueNames                 the number of names of a node is the true count of the links and roots that name it, at most two
---   KeepsRest                 the calls of a pointer memory keep the rest
---   WorksAlone                a call changes the state of the working version alone
---   SealedStays, StaysSealed, SealedRuns    a version other than the draft never changes, over a call and over a run
---   OpenCopies                open makes the next version, a copy of the one it is opened on
---   EnterKeeps, ThereAndBack    enter changes no state; entering and coming back leaves the working state as it was
---   MakesNew, MadeGrows, SerialOnce    a new node's serial number is in no version, and is given to no second node
---   KeepsKeys                 a node keeps its key place
---   NodesOfPath              the nodes of a version are those born on its path
+--   StaysSound, RunsSound                  every call keeps a memory sound; so every run from a fresh memory is sound
+--   TrueNames                              the number of names of a node is the true count of the links and roots that name it, at most two
+--   KeepsRest                              the calls of a pointer memory keep the rest
+--   WorksAlone                             a call changes the state of the working version alone
+--   SealedStays, StaysSealed, SealedRuns   a version other than the draft never changes, over a call and over a run
+--   OpenCopies                             open makes the next version, a copy of the one it is opened on
+--   EnterKeeps, ThereAndBack               enter changes no state; entering and coming back leaves the working state as it was
+--   MakesNew, MadeGrows, SerialOnce        a new node's serial number is in no version, and is given to no second node
+--   KeepsKeys                              a node keeps its key place
+--   NodesOfPath                            the nodes of a version are those born on its path
 use Rattle.std.specs.Prelude.{◌≡◌, ℕ, suc, ◌+◌, ◌<◌, ◌≤◌, Bool, true, false, cond, List, [], ◌∷◌, is_some, Some, None, Option, ◌≢◌, nat_lt}
 use Rattle.order.specs.Items.{member}
 use Rattle.memory.specs.Memory.{Node, State, Memory, AllNil, count, state_of, Sound, fresh, fresh_single}

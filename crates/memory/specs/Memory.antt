@@ -1,21 +1,21 @@
 -- What a memory means: one abstract record for pointer memories and versioned memories alike.
 --
---   Node         a node: its key place, its numbers and its links
---   State        the roots and nodes of one version, and how often each node is named
---   Rest         what the calls of a pointer memory keep: the other versions, the working version, the draft
---   Memory       a whole memory
---   changed      the changes accepted so far
---   put          a function of a number with one place changed
---   hits         whether a link or root names a node, as 0 or 1
---   with_link, with_number, new_node     a node with one link or number written; a node at its birth
+--   Node                               a node: its key place, its numbers and its links
+--   State                              the roots and nodes of one version, and how often each node is named
+--   Rest                               what the calls of a pointer memory keep: the other versions, the working version, the draft
+--   Memory                             a whole memory
+--   changed                            the changes accepted so far
+--   put                                a function of a number with one place changed
+--   hits                               whether a link or root names a node, as 0 or 1
+--   with_link, with_number, new_node   a node with one link or number written; a node at its birth
 --   renamed, names_of                  the numbers of names after a link or root is written; the names of what a register holds
---   state_of      the state of any version
---   is_draft      whether a version is the draft
---   AllNil       all registers are nil
+--   state_of                           the state of any version
+--   is_draft                           whether a version is the draft
+--   AllNil                             all registers are nil
 --   fresh, fresh_single                the memories that makers make
---   sum_to, node_hits, count            the true count of the links and roots that name a node
---   Orderly      a state whose numbers of names are the true counts, and that names only its own nodes
---   Sound        a memory whose versions are all in order
+--   sum_to, node_hits, count           the true count of the links and roots that name a node
+--   Orderly                            a state whose numbers of names are the true counts, and that names only its own nodes
+--   Sound                              a memory whose versions are all in order
 use Rattle.std.specs.Prelude.{◌≡◌, ℕ, zero, suc, ◌+◌, ◌-◌, ◌<◌, ◌≤◌, Bool, true, false, cond, List, [], ◌∷◌, is_some, Some, None, Option, ◌==◌, nat_lt}
 use Rattle.order.specs.Items.{member}
 

@@ -1,13 +1,13 @@
 -- What a call of a memory promises, in terms of its step. P is the meaning: P s m says that the concrete memory s, with the order at
 -- hand, means the abstract memory m.
 --
---   Meets    one call's result and the memory after it are what a step comes to; refused, the memory is equal to the one before
---   Does     a call does a step, from whatever its memory means
---   Tells    the same of a call that only answers
---   Foreign  a call with an order of another count: 20, and nothing is changed
---   Carries  a call that leaves all but registers and working version alone
---   Comes    the result of a row of calls and, where it is accepted, the memory after it, are what a chain of steps comes to
---   Runs     a row of calls runs a chain of steps, from whatever its memory means
+--   Meets     one call's result and the memory after it are what a step comes to; refused, the memory is equal to the one before
+--   Does      a call does a step, from whatever its memory means
+--   Tells     the same of a call that only answers
+--   Foreign   a call with an order of another count: 20, and nothing is changed
+--   Carries   a call that leaves all but registers and working version alone
+--   Comes     the result of a row of calls and, where it is accepted, the memory after it, are what a chain of steps comes to
+--   Runs      a row of calls runs a chain of steps, from whatever its memory means
 use Rattle.std.specs.Prelude.{◌≡◌, Bool, true, false, Ok, Err, Result}
 use Rattle.refusals.specs.declared.kinds.MemoryRefusal.{MemoryRefusal}
 use Rattle.refusals.specs.declared.kinds.MemoryRefusal.TheVariants.{ForeignOrder}

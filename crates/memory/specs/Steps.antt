@@ -1,23 +1,23 @@
 -- The calls of a memory as steps of what it means: a call is done, with an answer and the next memory, or it is refused. Where several
 -- refusals fit, the one with the smallest number is given, since each step asks in the order of the numbers:
 --
---   load, move, nil, same      21
---   follow, key, value, mark   21 22
---   make                       21    23    25
---   save                       21    23 24    26
---   link                       21 22 23 24    26
---   set value, set mark        21 22 23 24
---   open                       27 31 32
---   enter                      31
---   close                      28
+--   load, move, nil, same                              21
+--   follow, key, value, mark                           21 22
+--   make                                               21    23    25
+--   save                                               21    23 24    26
+--   link                                               21 22 23 24    26
+--   set                                                value, set mark        21 22 23 24
+--   open                                               27 31 32
+--   enter                                              31
+--   close                                              28
 --
 -- 20, another order, comes before all of them: a memory means something only together with an order of its own count.
 --
---   Done, done, no, then       what a call comes to; one call after another
---   check, at_node, writing, naming     the conditions of a call, each with its refusal
---   with_reg, written, born, entered, opened, closed     the memory after a call
+--   Done, done, no, then                               what a call comes to; one call after another
+--   check, at_node, writing, naming                    the conditions of a call, each with its refusal
+--   with_reg, written, born, entered, opened, closed   the memory after a call
 --   load_of, follow_of, move_of, key_of, number_of, nil_of, same_of, make_of, save_of, link_of, set_number_of, open_of, enter_of, close_of
---                              the steps; value and mark are numbers 0 and 1
+--                                                      the steps; value and mark are numbers 0 and 1
 use Rattle.std.specs.Prelude.{◌≡◌, ℕ, suc, ◌+◌, Bool, true, false, cond, List, [], ◌∷◌, Some, None, Option, ◌==◌, nat_le, nat_lt}
 use Rattle.refusals.specs.declared.kinds.OrderRefusal.TheVariants.{UnknownItem, Full}
 use Rattle.refusals.specs.declared.kinds.MemoryRefusal.{MemoryRefusal}

@@ -1,10 +1,10 @@
 -- A linked list under root 0, as an example of code over a memory: link 1 of each node leads to the next.
 --
---   Listed         the values of a linked list, first to last
---   push_of         the steps that put a node in front
---   advance_of      the steps that go a number of nodes on, in register 0
---   value_at_of      the steps that read the value of the node at a place
---   two_of          the steps that push two values and read both
+--   Listed        the values of a linked list, first to last
+--   push_of       the steps that put a node in front
+--   advance_of    the steps that go a number of nodes on, in register 0
+--   value_at_of   the steps that read the value of the node at a place
+--   two_of        the steps that push two values and read both
 --   PushLists     a push puts its value in front
 --   WalkAnswers   the value at a place is the one that stands there
 use Rattle.std.specs.Prelude.{◌≡◌, ℕ, zero, suc, ◌+◌, ◌<◌, ◌≤◌, true, List, [], ◌∷◌, length, Some, None, Option, slice_index}

@@ -1,4 +1,6 @@
 // A linked list over any memory and any order: generic code in rows of calls, and what its rows come to.
+#![tactic(auto)]
+
 ghost use Rattle.memory.specs.Promises.{Runs, Carries};
 ghost use Rattle.memory_example.specs.Chains.{push_of, advance_of, value_at_of, two_of, PushLists, WalkAnswers};
 

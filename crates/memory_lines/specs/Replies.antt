@@ -1,9 +1,9 @@
 -- What a line comes to, as a step of the abstract memory with one type of answers.
 --
---   replied      the answer of a step, as a reply
---   as_reply      the same of a call's result
---   move_step, question_step, write_step, pointer_step, version_step     the step that a line calls
---   answered     a result as an answer
+--   replied                                                            the answer of a step, as a reply
+--   as_reply                                                           the same of a call's result
+--   move_step, question_step, write_step, pointer_step, version_step   the step that a line calls
+--   answered                                                           a result as an answer
 use Rattle.std.specs.Prelude.{ℕ, Bool, Ok, Err, Result}
 use Rattle.refusals.specs.declared.kinds.MemoryRefusal.{MemoryRefusal}
 use Rattle.memory.specs.Memory.{Memory}

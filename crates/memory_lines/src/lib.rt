@@ -1,4 +1,6 @@
 // Lines that call a memory: running one over any memory and any order, and the text of the answer.
+#![tactic(auto)]
+
 pub mod line;
 pub mod reply;
 pub mod run;

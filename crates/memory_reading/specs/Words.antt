@@ -1,11 +1,11 @@
 -- The words and numbers of a line, and the call that they are.
 --
---   word_of              the word that a text is, of the four kinds move_word, question_word, write_word and version_word
---   one, two, three     that many numbers of 32 bits, and no more
---   four                the numbers of `make`: the third has 64 bits
---   wide_two             the numbers of `set_value`: the second has 64 bits
---   move_with, question_with, write_with, version_with, line_of    the call of a word and its numbers; nothing where they do not fit
---   text_line            the call that the words of a line write, or nothing
+--   word_of                                                       the word that a text is, of the four kinds move_word, question_word, write_word and version_word
+--   one, two, three                                               that many numbers of 32 bits, and no more
+--   four                                                          the numbers of `make`: the third has 64 bits
+--   wide_two                                                      the numbers of `set_value`: the second has 64 bits
+--   move_with, question_with, write_with, version_with, line_of   the call of a word and its numbers; nothing where they do not fit
+--   text_line                                                     the call that the words of a line write, or nothing
 use Rattle.std.specs.Prelude.{ℕ, ◌^◌, Bool, true, false, cond, ◌&&◌, List, [], ◌∷◌, Some, None, codes, Option, nat_lt}
 use Rattle.std.specs.Str.{bytes_eq}
 use Rattle.text.specs.Numbers.{numbers_of}

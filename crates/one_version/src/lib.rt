@@ -1,4 +1,6 @@
 // The order of a single version: it holds item 0 alone, and takes no other. Single-version memory is run with it.
+#![tactic(auto)]
+
 ghost use Rattle.std.specs.Prelude.{◌∷◌, []};
 ghost use Rattle.std.proofs.Common.{rules};
 

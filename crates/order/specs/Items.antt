@@ -1,16 +1,16 @@
 -- What a version order means, as a list of item numbers, and what each call answers of that list.
 --
---   member           an item stands in the list
---   Distinct         no item stands twice
---   known            an item is known: items are numbered from 0 to one less than their count
---   earlier          one item stands earlier than another
---   position         where an item stands, counted from 0
---   following        the item right behind another
---   behind           the list with a new item right behind another
---   after_answer      the answer of `after`: the new item's number; refused 31, then 32
---   items_after       the list after a call with that answer
---   before_answer     the answer of `before`; refused 31
---   successor_answer  the answer of `successor`; refused 31
+--   member             an item stands in the list
+--   Distinct           no item stands twice
+--   known              an item is known: items are numbered from 0 to one less than their count
+--   earlier            one item stands earlier than another
+--   position           where an item stands, counted from 0
+--   following          the item right behind another
+--   behind             the list with a new item right behind another
+--   after_answer       the answer of `after`: the new item's number; refused 31, then 32
+--   items_after        the list after a call with that answer
+--   before_answer      the answer of `before`; refused 31
+--   successor_answer   the answer of `successor`; refused 31
 use Rattle.std.specs.Prelude.{◌≡◌, ℕ, suc, Bool, true, false, cond, ◌&&◌, List, [], ◌∷◌, length, Some, None, Ok, Err, Option, Result, ◌==◌, nat_lt}
 use Rattle.refusals.specs.declared.kinds.OrderRefusal.{OrderRefusal}
 use Rattle.refusals.specs.declared.kinds.OrderRefusal.TheVariants.{UnknownItem, Full}

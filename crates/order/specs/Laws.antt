@@ -1,7 +1,7 @@
 -- Laws of the list that a version order means.
 --
---   BeforeIsAnOrder      no item is before itself; before is transitive; of two different items one is before the other
---   NewItemPartsNothing  a new item leaves the others in their order
+--   BeforeIsAnOrder       no item is before itself; before is transitive; of two different items one is before the other
+--   NewItemPartsNothing   a new item leaves the others in their order
 use Rattle.std.specs.Prelude.{◌≡◌, ℕ, true, false, ◌⊎◌, List, ◌≢◌}
 use Rattle.order.specs.Items.{member, Distinct, earlier, behind}
 

@@ -1,5 +1,7 @@
 // The interface of version orders: a limit, and a list of items without repeats. Every memory asks such an order which of two
 // versions stands earlier; nothing above this crate knows how an order keeps its items.
+#![tactic(auto)]
+
 ghost use Rattle.std.specs.Prelude.{◌≡◌, ℕ, ◌≤◌, List, length, OnErr};
 ghost use Rattle.order.specs.Items.{member, Distinct, known, after_answer, items_after, before_answer, successor_answer};
 ghost use Rattle.order.specs.Laws.{BeforeIsAnOrder, NewItemPartsNothing};

@@ -1,8 +1,8 @@
 -- What an order answers to a line, and what the line makes of its items.
 --
---   lineAnswer  the answer, by the items, the limit and the labels
---   itemsBy     the items after a line with that answer
---   Keeps       a fact that holds unless the answer is a new item
+--   lineAnswer   the answer, by the items, the limit and the labels
+--   itemsBy      the items after a line with that answer
+--   Keeps        a fact that holds unless the answer is a new item
 use Rattle.std.specs.Prelude.{ℕ, List, length, Ok, Err, Result}
 use Rattle.refusals.specs.declared.kinds.OrderRefusal.{OrderRefusal}
 use Rattle.order.specs.Items.{behind, after_answer, before_answer, successor_answer}

@@ -2,7 +2,7 @@
 --
 --   one_item      the one number that words write
 --   two_items     the two numbers that words write
---   asked        the line that begins with a word
+--   asked         the line that begins with a word
 --   line_of       the line that words write, or nothing
 --   answer_text   an answer
 use Rattle.std.specs.Prelude.{ℕ, Bool, true, false, cond, ◌&&◌, List, [], ◌∷◌, ◌++◌, Some, None, codes, decimal, Option}

@@ -1,4 +1,6 @@
 // Rows of calls over any version order, shown from the interface alone.
+#![tactic(auto)]
+
 ghost use Rattle.std.specs.Prelude.{◌≡◌, MatchResult};
 ghost use Rattle.order_steps.specs.Steps.{Between};
 

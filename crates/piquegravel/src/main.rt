@@ -1,4 +1,5 @@
 // The program: commands over files of lines, each answered line by line on standard output.
+#![tactic(auto)]
 
 mod comparing;
 mod keying;

@@ -1,15 +1,15 @@
 -- Keys through a book: a node holds the place of its key, and places are compared by the keys that stand there.
 --
---   first_of          which of two keys goes first, where one may be missing
---   place_first       the key at one place goes before the key at another
---   key_at            the key at a place, and a given key where none is written
---   beside_first      places compared beside a given key, which stands wherever none is written
---   goes_left         a given key goes before the key at a place
---   way_from          on which side of a place a given key lies, or nothing where it is there
---   KeyLaws          what is asked of the order of keys
+--   first_of        which of two keys goes first, where one may be missing
+--   place_first     the key at one place goes before the key at another
+--   key_at          the key at a place, and a given key where none is written
+--   beside_first    places compared beside a given key, which stands wherever none is written
+--   goes_left       a given key goes before the key at a place
+--   way_from        on which side of a place a given key lies, or nothing where it is there
+--   KeyLaws         what is asked of the order of keys
 --   PlacesOrdered   both orders of places have the laws of an order of keys
 --   PlacesAlike     they compare the written places alike, and go on doing so as the book grows
---   WaysToHold          the way to a given key is the way to a place that holds it, such as the first that is not written
+--   WaysToHold      the way to a given key is the way to a place that holds it, such as the first that is not written
 use Rattle.std.specs.Prelude.{◌≡◌, ℕ, ◌<◌, Bool, true, false, cond, List, ◌++◌, length, Some, None, Option, slice_index_or}
 use Rattle.std.specs.List.{slice_get}
 use Rattle.trees.specs.Lists.{KeyOrder}

@@ -1,4 +1,6 @@
 // Places compared through the book of their keys, for every key type.
+#![tactic(auto)]
+
 ghost use Rattle.std.specs.Prelude.{◌≡◌};
 ghost use Rattle.books.specs.Books.{book_keys};
 ghost use Rattle.places.specs.Places.{place_first, goes_left, way_from, PlacesOrdered, PlacesAlike, WaysToHold};

@@ -2,7 +2,7 @@
 --
 --   KeepsIs, Keeps   a row of steps, where it is accepted, leaves x in register 35
 --   KeepsNil         the rows of the queues do
---   NilStays        from every memory
+--   NilStays         from every memory
 use Rattle.std.specs.Prelude.{◌≡◌, ℕ, Bool, Option}
 use Rattle.memory.specs.Memory.{Memory}
 use Rattle.memory.specs.Steps.{Done, done, no}

@@ -2,7 +2,7 @@
 -- node on the way down, and what stands beside the left child on the way up.
 --
 --   rank_of        the rank of a register's node; nil has rank 0
---   next_rank_of    one more than a rank; a mark has 32 bits
+--   next_rank_of   one more than a rank; a mark has 32 bits
 --   hang_of        the node of register d gets what is in register d + 1 as a child, the larger rank on the left
 --   sink_of        one level of a merge
 --   swap_of        the heaps of registers d and 39 change places

@@ -1,10 +1,10 @@
 -- The calls of a queue as rows of steps. Root 1 is due, root 2 is held; register 35 is nil.
 --
---   push_of       a job joins the queue of a root
---   part_of       the first node of a heap leaves its children in registers 0 and 39, and loses both links
---   pop_of        the first job of a root's queue goes, and its key is answered; nothing where the queue is empty
---   top_of        the key of the first job, or nothing
---   release_of    the held jobs become due
+--   push_of      a job joins the queue of a root
+--   part_of      the first node of a heap leaves its children in registers 0 and 39, and loses both links
+--   pop_of       the first job of a root's queue goes, and its key is answered; nothing where the queue is empty
+--   top_of       the key of the first job, or nothing
+--   release_of   the held jobs become due
 use Rattle.std.specs.Prelude.{ℕ, Bool, cond, Some, None, Option}
 use Rattle.memory.specs.Memory.{Memory}
 use Rattle.memory.specs.Steps.{Done, done, then, load_of, follow_of, move_of, key_of, nil_of, make_of}

@@ -1,11 +1,11 @@
 -- What the queues' rows of steps do to the heaps under their registers, and to the whole working state.
 --
 --   Pair             two heaps that share no node, one under a register and one under register 39
---   MergeSteps      the steps of `mergeOf` leave the merged heap
---   PushJoins       a job joins due, or held
---   PopTakes        the first due job goes; an empty queue is answered, with nothing written
---   TopAnswers_lem      the key of the first due job is answered
---   ReleaseMerges   the held jobs become due
+--   MergeSteps       the steps of `mergeOf` leave the merged heap
+--   PushJoins        a job joins due, or held
+--   PopTakes         the first due job goes; an empty queue is answered, with nothing written
+--   TopAnswers_lem   the key of the first due job is answered
+--   ReleaseMerges    the held jobs become due
 use Rattle.std.specs.Prelude.{◌≡◌, ℕ, ◌+◌, ◌*◌, ◌<◌, ◌≤◌, Bool, true, Some, None, Option}
 use Rattle.trees.specs.Trees.{Tree, root_of, occurrences, size}
 use Rattle.trees.specs.Leftist.{rank, Leftist, merged}

@@ -1,4 +1,6 @@
 // The queues' rows of steps. Each function here names theorems by its contract; nothing of it is run.
+#![tactic(auto)]
+
 ghost use Rattle.queue_steps.specs.Theorems.{MergeSteps, PushJoins, PopTakes, TopAnswers_lem, ReleaseMerges};
 
 // Two heaps under registers become the merged heap.

@@ -2,12 +2,12 @@
 -- and the memory t after it means an abstract memory in which the queues are what the rules say. A job is the place k of its key in
 -- the book, and sooner is the order of places; before is the order of the map's keys.
 --
---   Accepted    a call was accepted: its answer, and what the memory then means
---   PopLeaves   what pop answers and leaves
---   Roomy       a job can be added
---   Ready       a job can be taken out, or all held ones moved
---   TopAnswers  what top answers
---   Pushes, Holds, Pops, Tops, Releases    the promises of the five calls
+--   Accepted                              a call was accepted: its answer, and what the memory then means
+--   PopLeaves                             what pop answers and leaves
+--   Roomy                                 a job can be added
+--   Ready                                 a job can be taken out, or all held ones moved
+--   TopAnswers                            what top answers
+--   Pushes, Holds, Pops, Tops, Releases   the promises of the five calls
 use Rattle.std.specs.Prelude.{◌≡◌, ℕ, ◌<◌, ◌≤◌, Bool, Some, None, Ok, Option, Result}
 use Rattle.refusals.specs.declared.kinds.MemoryRefusal.{MemoryRefusal}
 use Rattle.trees.specs.Trees.{Tree, leaf, node}

@@ -1,4 +1,6 @@
 // The two queues, due and held, over any memory, any order and any key. A job is the place of its key in the book.
+#![tactic(auto)]
+
 ghost use Rattle.books.specs.Books.{book_keys};
 ghost use Rattle.places.specs.Places.{place_first};
 ghost use Rattle.memory.specs.Promises.{Runs, Carries};

@@ -1,4 +1,6 @@
 // Why a call is refused, one enum for each layer, and the number by which each refusal is known outside.
+#![tactic(auto)]
+
 ghost use Rattle.std.specs.Prelude.{◌≡◌, ℕ};
 ghost use Rattle.refusals.specs.Numbers.{maker_number, store_number, book_number, name_number, memory_number, order_number};
 

@@ -1,7 +1,7 @@
 -- What a relabelled list means.
 --
---   relabelled_items    its items, first to last
---   relabelled_entries  the same, each with its label
+--   relabelled_items     its items, first to last
+--   relabelled_entries   the same, each with its label
 use Rattle.std.specs.Prelude.{ℕ, List, vec_items}
 use Rattle.labels.specs.Labels.{Entries}
 use Rattle.linked_lists.specs.Chain.{listed, labelled}

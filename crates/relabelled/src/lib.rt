@@ -1,4 +1,6 @@
 // A version order kept by labels: a doubly linked list of items whose labels rise from the first to the last.
+#![tactic(auto)]
+
 pub mod calls;
 mod links;
 pub mod list;

@@ -1,8 +1,8 @@
 -- Copies that are the same as far as they count: a table's rows say nothing of copies that are not there.
 --
---   SameCopies       as many copies, nodes and versions, and each copy that is there is the same
---   world_with, memory_with      a world and a memory with other copies
---   SameSound, SameThreaded, SameKept, SameStands      what holds of one holds of the other
+--   SameCopies                                      as many copies, nodes and versions, and each copy that is there is the same
+--   world_with, memory_with                         a world and a memory with other copies
+--   SameSound, SameThreaded, SameKept, SameStands   what holds of one holds of the other
 use Rattle.std.specs.Prelude.{◌≡◌, ℕ, ◌<◌, List, Option}
 use Rattle.memory.specs.Memory.{Memory}
 use Rattle.slices.specs.Copies.{Copies, Sound}

@@ -1,9 +1,9 @@
 -- A split as a table does it: it visits the copies that the split copy names, redirects them and the split copy to the new one, and
 -- then cuts the split copy.
 --
---   Parted           the copies after such visits and the cut
---   Suffices         every copy that the split copy names at x, or by an entry behind x, was visited
---   VisitsSplit     then the split is done
+--   Parted        the copies after such visits and the cut
+--   Suffices      every copy that the split copy names at x, or by an entry behind x, was visited
+--   VisitsSplit   then the split is done
 use Rattle.std.specs.Prelude.{◌≡◌, ℕ, suc, ◌<◌, Bool, true, false, ◌≢◌}
 use Rattle.entries.specs.Entries.{entries_behind}
 use Rattle.slices.specs.Copies.{Copies, value_at, Serves, serving, Sound}

@@ -1,5 +1,7 @@
 // Copies that agree as far as they are there, and a split done by visits. No code of tables; each function below states theorems,
 // which its proof gives.
+#![tactic(auto)]
+
 ghost use Rattle.same_copies.specs.Same.{SameKept, SameSound, SameStands, SameThreaded};
 ghost use Rattle.same_copies.specs.Visits.{VisitsSplit};
 

@@ -1,6 +1,6 @@
 -- What the maker of a single-version memory answers.
 --
---   make_refusal    1 where a limit is outside its range, else 2 where the table is too short, else nothing
+--   make_refusal   1 where a limit is outside its range, else 2 where the table is too short, else nothing
 --   MadeIs         a memory that means the fresh memory, or the refusal with the table handed back
 use Rattle.std.specs.Prelude.{◌≡◌, ℕ, Bool, true, false, cond, ◌&&◌, Some, None, Ok, Err, Option, Result, nat_le}
 use Rattle.refusals.specs.declared.kinds.MakerRefusal.{MakerRefusal}

@@ -1,10 +1,10 @@
 -- The rows of a single-version memory's table, and what the functions on them come to.
 --
---   below, all_below    a link, root or register is nil or names a node below a number; all of an array are
---   new_row, row_linked, row_valued, row_marked, row_named    a row at its birth, and with one part written
---   names_at            the number of names of what a link, root or register holds
---   crowds             whether a node would get a third name
---   raised, lowered    the table with one name more, or one less
+--   below, all_below                                         a link, root or register is nil or names a node below a number; all of an array are
+--   new_row, row_linked, row_valued, row_marked, row_named   a row at its birth, and with one part written
+--   names_at                                                 the number of names of what a link, root or register holds
+--   crowds                                                   whether a node would get a third name
+--   raised, lowered                                          the table with one name more, or one less
 use Rattle.std.specs.Prelude.{◌≡◌, ℕ, ◌+◌, ◌-◌, ◌≤◌, Bool, true, false, cond, List, [], ◌∷◌, get_or, replicate, Some, None, Option, ◌==◌, nat_le, nat_lt, slice_index_or, slice_set}
 use Rattle.single.specs.declared.node.Node.{Node as Row}
 

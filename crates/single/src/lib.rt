@@ -1,4 +1,6 @@
 // Single-version memory: one state, in a table of nodes that is given at making.
+#![tactic(auto)]
+
 pub mod calls;
 pub mod make;
 mod names;

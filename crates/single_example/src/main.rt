@@ -1,4 +1,6 @@
 // A linked list of two values in a single-version memory: the answers are promised, and the program prints them.
+#![tactic(auto)]
+
 ghost use Rattle.std.specs.Prelude.{◌≡◌, vec_len};
 ghost use Rattle.single_example.specs.Listed.{list_answer};
 

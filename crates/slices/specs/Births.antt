@@ -1,10 +1,10 @@
 -- Making a node, and which copy serves a node at a version.
 --
---   first_values, new_copy, make_node    a node is made
---   MakeSound       one copy more serves; all others serve and read as before
---   Born, Served     a serial number is born at a position; a copy of it serves there
---   OneServes       a born serial number has exactly one serving copy
---   BirthsStay      what each step does to births
+--   first_values, new_copy, make_node   a node is made
+--   MakeSound                           one copy more serves; all others serve and read as before
+--   Born, Served                        a serial number is born at a position; a copy of it serves there
+--   OneServes                           a born serial number has exactly one serving copy
+--   BirthsStay                          what each step does to births
 use Rattle.std.specs.Prelude.{◌≡◌, ℕ, suc, ◌-◌, ◌<◌, ◌≤◌, cond, ◌⊎◌, [], ◌==◌, ◌≢◌, nat_lt}
 use Rattle.fields.specs.declared.kinds.Value.{Value}
 use Rattle.fields.specs.declared.kinds.Value.TheVariants.{Number, Nil}

@@ -1,13 +1,13 @@
 -- The change of a field at one version.
 --
---   changed             a copy with one field changed at a version
---   ChangedReads       only that version and field see it
---   set_field            the copies with one field of one of them changed
---   NextServed          what a change knows of the version behind
---   SetFieldSlices     no slice alters but in that one field at that version
---   FieldWrite, set_all  several changes at one version
---   with_values          a slice with several fields replaced
---   SetAllSound        sound, if the version's own slice is coherent afterwards
+--   changed               a copy with one field changed at a version
+--   ChangedReads          only that version and field see it
+--   set_field             the copies with one field of one of them changed
+--   NextServed            what a change knows of the version behind
+--   SetFieldSlices        no slice alters but in that one field at that version
+--   FieldWrite, set_all   several changes at one version
+--   with_values           a slice with several fields replaced
+--   SetAllSound           sound, if the version's own slice is coherent afterwards
 use Rattle.std.specs.Prelude.{◌≡◌, ℕ, suc, ◌<◌, ◌≤◌, Bool, true, false, cond, List, [], ◌∷◌, ◌==◌, ◌≢◌}
 use Rattle.fields.specs.declared.kinds.Value.{Value}
 use Rattle.entries.specs.Entries.{both, put, keep}

@@ -1,13 +1,13 @@
 -- The copies of a splitting memory: which of them serves a version, and when they are sound.
 --
---   Copy             a serial number, a key place, a first version, first values and entries
---   Copies           all copies, how many nodes were made and how many versions there are
+--   Copy              a serial number, a key place, a first version, first values and entries
+--   Copies            all copies, how many nodes were made and how many versions there are
 --   value_at          what a field of a copy holds at a position
---   Serves, serving  a copy serves a position; the same as a test
---   CoherentAt       the slice of a position is coherent
---   CopyOk, Shaped   what holds of each copy alone, and of their places
---   Sound            shaped, and every version's slice is coherent
---   ServingTells    the test tells
+--   Serves, serving   a copy serves a position; the same as a test
+--   CoherentAt        the slice of a position is coherent
+--   CopyOk, Shaped    what holds of each copy alone, and of their places
+--   Sound             shaped, and every version's slice is coherent
+--   ServingTells      the test tells
 --
 -- The copy 0 is the root record: its serial number is 0, its first version stands first, and it is never split. A node with the
 -- serial number s has the serial number s + 1 here. pos gives the position of a version in the order.

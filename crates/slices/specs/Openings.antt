@@ -1,8 +1,8 @@
 -- A new version comes into the order.
 --
---   up, down       where a position goes when a version comes in, and which position it came from
---   opened         one version more
---   OpenSound     every slice goes with its version; the new version's slice is that of the version before it
+--   up, down    where a position goes when a version comes in, and which position it came from
+--   opened      one version more
+--   OpenSound   every slice goes with its version; the new version's slice is that of the version before it
 use Rattle.std.specs.Prelude.{◌≡◌, ℕ, suc, ◌-◌, ◌<◌, ◌≤◌, cond, nat_lt}
 use Rattle.slices.specs.Copies.{Copies, value_at, Serves, Sound}
 

@@ -1,13 +1,13 @@
 -- Which copies a split has to visit, and how: only the partners of the split copy, those that name it from x on; and it is enough
 -- to let them name the new copy in place of the old, since nothing names the new one yet.
 --
---   names_one, redirect             a value names a copy; a value that names one copy in place of another
---   redirects, redirect_maps, redirected_copy     entries and a copy in which, from a version on, one copy is named in place of another
---   ValuesOf                       something holds of the values of a field among entries
---   SplitRedirects                a split renames every copy by redirecting it
---   RedirectTwice                 redirecting a copy twice is redirecting it once
---   SplitIdle                     the copies that a split leaves as they are
---   PartnersFound                 a copy that names the split one is named by it, at x or by an entry behind x
+--   names_one, redirect                         a value names a copy; a value that names one copy in place of another
+--   redirects, redirect_maps, redirected_copy   entries and a copy in which, from a version on, one copy is named in place of another
+--   ValuesOf                                    something holds of the values of a field among entries
+--   SplitRedirects                              a split renames every copy by redirecting it
+--   RedirectTwice                               redirecting a copy twice is redirecting it once
+--   SplitIdle                                   the copies that a split leaves as they are
+--   PartnersFound                               a copy that names the split one is named by it, at x or by an entry behind x
 use Rattle.std.specs.Prelude.{◌≡◌, ℕ, ◌<◌, ◌≤◌, Bool, true, false, cond, List, [], ◌∷◌, ◌==◌, ◌≢◌, nat_le}
 use Rattle.fields.specs.declared.kinds.Value.{Value}
 use Rattle.fields.specs.declared.kinds.Value.TheVariants.{Number, Nil, To, From}

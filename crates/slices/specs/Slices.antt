@@ -1,8 +1,8 @@
 -- A slice: the graph of one version, that is, which copies serve it and what their fields hold there.
 --
---   Coherent         links and back links answer each other, each once, and every field holds what it may
---   swap, swapped    two copies change places in a slice
---   with_value        a slice with one field replaced
+--   Coherent        links and back links answer each other, each once, and every field holds what it may
+--   swap, swapped   two copies change places in a slice
+--   with_value      a slice with one field replaced
 --
 -- A slice is given by two functions: on says which copies serve, get i f is what the field f of the copy i holds. The copy 0 is the
 -- root record.

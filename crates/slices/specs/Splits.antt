@@ -1,12 +1,12 @@
 -- The split of a copy.
 --
---   naming              the fields that can name a copy: links and back links
---   names               a value names one of two copies
---   renames, maps       the entries of a copy, renamed in all these fields
---   renamed_copy         a copy in which, from a version on, two copies have changed places
---   front_half, back_half     the parts of the split copy
---   split               the split of a copy at a version
---   SplitSound         a split keeps soundness, and every slice but for the two copies' places
+--   naming                  the fields that can name a copy: links and back links
+--   names                   a value names one of two copies
+--   renames, maps           the entries of a copy, renamed in all these fields
+--   renamed_copy            a copy in which, from a version on, two copies have changed places
+--   front_half, back_half   the parts of the split copy
+--   split                   the split of a copy at a version
+--   SplitSound              a split keeps soundness, and every slice but for the two copies' places
 use Rattle.std.specs.Prelude.{◌≡◌, ℕ, suc, ◌<◌, ◌≤◌, Bool, true, false, cond, List, [], ◌∷◌, ◌==◌, ◌≢◌, nat_le}
 use Rattle.fields.specs.declared.kinds.Value.{Value}
 use Rattle.fields.specs.declared.kinds.Value.TheVariants.{Number, Nil, To, From}

@@ -1,9 +1,9 @@
 -- The copies of a node in their order: each knows the next.
 --
---   NextIs, Threaded     next names, for each copy, the copy of its node that begins next behind it
---   owns                 whether a copy serves a position behind its first version, told by the next copy alone
---   OwnsServes          this is the test of serving
---   ThreadsStay         what each step does to the next copies
+--   NextIs, Threaded   next names, for each copy, the copy of its node that begins next behind it
+--   owns               whether a copy serves a position behind its first version, told by the next copy alone
+--   OwnsServes         this is the test of serving
+--   ThreadsStay        what each step does to the next copies
 use Rattle.std.specs.Prelude.{◌≡◌, ℕ, ◌<◌, ◌≤◌, Bool, true, false, cond, Some, None, Option, ◌==◌, nat_lt}
 use Rattle.slices.specs.Copies.{Copies, Serves, Decides, Sound}
 use Rattle.slices.specs.Splits.{split}

@@ -1,5 +1,7 @@
 // Copies and slices: the theory of which copy serves which version, and of changes, splits, new versions and new nodes. No code of
 // tables; each function below states theorems, which its proof gives.
+#![tactic(auto)]
+
 ghost use Rattle.slices.specs.Births.{BirthsStay, MakeSound, OneServes};
 ghost use Rattle.slices.specs.Changes.{ChangedReads, SetAllSound, SetFieldSlices};
 ghost use Rattle.slices.specs.Copies.{ServingTells};

@@ -1,8 +1,8 @@
 -- A worked figure: a node is made and saved as root 0 in version 1, and its value is set once in each of the versions 2 to 20, a chain.
 --
---   start, valued, chain    the calls
---   until19, until20        the worlds after version 19 and after version 20
---   Figure                  one copy with 18 entries; then two copies with 9 each
+--   start, valued, chain   the calls
+--   until19, until20       the worlds after version 19 and after version 20
+--   Figure                 one copy with 18 entries; then two copies with 9 each
 use Rattle.std.specs.Prelude.{◌≡◌, ℕ, zero, suc, ◌+◌, List, [], ◌∷◌, ◌++◌}
 use Rattle.fields.specs.declared.kinds.Value.TheVariants.{To}
 use Rattle.space.specs.Space.{size}

@@ -1,15 +1,15 @@
 -- Runs of a splitting memory: new versions, new nodes, changes and splits, in any order that the rules allow; what they keep, and what
 -- they can use up.
 --
---   World            the order's list, the copies, the states that they stand for, and what was counted
---   Move, after      a step, and the world after it
---   May, allowed     when a step may be taken; the same as a test
---   Runs, last       a list of steps that may be taken one after the other; the world at its end
---   fresh_world       the world of a fresh memory
---   Kept             what every world of a run has: sound copies that stand for the states, and the space paid for
---   Spaced           the bounds: copies and entries ever used, by nodes made and changes accepted
---   RunKeeps        every world of every run has both
---   overfull, split_overfull, cascade, CascadeEnds     splits until no copy has more than 18 entries, in one order of splits
+--   World                                            the order's list, the copies, the states that they stand for, and what was counted
+--   Move, after                                      a step, and the world after it
+--   May, allowed                                     when a step may be taken; the same as a test
+--   Runs, last                                       a list of steps that may be taken one after the other; the world at its end
+--   fresh_world                                      the world of a fresh memory
+--   Kept                                             what every world of a run has: sound copies that stand for the states, and the space paid for
+--   Spaced                                           the bounds: copies and entries ever used, by nodes made and changes accepted
+--   RunKeeps                                         every world of every run has both
+--   overfull, split_overfull, cascade, CascadeEnds   splits until no copy has more than 18 entries, in one order of splits
 --
 -- Splits are steps of their own, so that nothing depends on their order: a change is followed by splits until no copy has more than 18
 -- entries, whichever is split first.

@@ -1,11 +1,11 @@
 -- How much the copies hold, what a change adds to it and what a split takes from it.
 --
---   size, all_entries, elsewhere     entries of a copy, of all copies, of all but one
---   surplus             what the copies of nodes hold above nine entries each, in all
---   split_version        the version at which a copy is split
---   ChangeAdds, RelinkThree      a change of a field adds at most two entries; the change of a link is at most three of them
---   SplitVersionFits   a copy with more than 18 entries can be split there
---   SplitAdds          what a split does to all of these
+--   size, all_entries, elsewhere   entries of a copy, of all copies, of all but one
+--   surplus                        what the copies of nodes hold above nine entries each, in all
+--   split_version                  the version at which a copy is split
+--   ChangeAdds, RelinkThree        a change of a field adds at most two entries; the change of a link is at most three of them
+--   SplitVersionFits               a copy with more than 18 entries can be split there
+--   SplitAdds                      what a split does to all of these
 --
 -- The argument: a copy is split when it has more than 18 entries, and the two parts have at most nine each above their nine, so that the
 -- surplus falls by at least ten; at most four entries come in elsewhere, so it falls by at least six in all. A change of a number

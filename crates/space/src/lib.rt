@@ -1,5 +1,7 @@
 // Space: how many copies and entries a splitting memory can use, over every run, and that every version keeps its state. No code of
 // tables; each function below states theorems, which its proof gives.
+#![tactic(auto)]
+
 ghost use Rattle.space.specs.Figure.{Figure};
 ghost use Rattle.space.specs.Runs.{AllowedRuns, CascadeEnds, KeptSpaced, RunKeeps, StepKeeps};
 ghost use Rattle.space.specs.Space.{ChangeAdds, RelinkThree, SplitAdds, SplitVersionFits};

@@ -1,10 +1,10 @@
 -- The same over the list of an order: the version behind, opening, and the third link in the words of the states.
 --
---   next_of              the version behind, from the order's answer
---   PositionsStand     positions in the list, and what a new item does to them
---   BehindListed       the order's successor is the version behind
---   OpenListed         opening a version
---   TwoNames, ThirdLink     a link is refused exactly when two others name the node
+--   next_of               the version behind, from the order's answer
+--   PositionsStand        positions in the list, and what a new item does to them
+--   BehindListed          the order's successor is the version behind
+--   OpenListed            opening a version
+--   TwoNames, ThirdLink   a link is refused exactly when two others name the node
 use Rattle.std.specs.Prelude.{◌≡◌, ℕ, suc, ◌<◌, ◌≤◌, true, ◌⊎◌, List, length, Some, None, Option, ◌≢◌}
 use Rattle.fields.specs.declared.kinds.Value.TheVariants.{To}
 use Rattle.fields.specs.Fields.{Shown}

@@ -1,12 +1,12 @@
 -- The states that the copies stand for: for each version the nodes that it holds, by serial number, as if it had a memory of its own.
 --
---   NodeState           which serial numbers a version holds, their key places, links and numbers
---   by_serial            a link to a copy as a link to its serial number
---   Shows, Means        a slice shows a state; the copies stand for the states of all versions
---   with_node, wrote     a state with a new node; a state with a link or number written
---   StateClosed        a state names only nodes that it holds
---   SplitMeans, OpenMeans, MakeMeans, RelinkMeans, SetNumberMeans      what each step does to the states
---   SplitRegister      what a split does to a register that holds a copy
+--   NodeState                                                       which serial numbers a version holds, their key places, links and numbers
+--   by_serial                                                       a link to a copy as a link to its serial number
+--   Shows, Means                                                    a slice shows a state; the copies stand for the states of all versions
+--   with_node, wrote                                                a state with a new node; a state with a link or number written
+--   StateClosed                                                     a state names only nodes that it holds
+--   SplitMeans, OpenMeans, MakeMeans, RelinkMeans, SetNumberMeans   what each step does to the states
+--   SplitRegister                                                   what a split does to a register that holds a copy
 --
 -- The serial number 0 is that of the root record, whose links are the roots; a node with the serial number s has s + 1 here.
 use Rattle.std.specs.Prelude.{◌≡◌, ℕ, suc, ◌<◌, Bool, true, false, cond, ◌⊎◌, ◌≢◌, nat_le}

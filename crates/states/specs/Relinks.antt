@@ -1,13 +1,13 @@
 -- The change of a link with the back links of both its targets, and the change of a number.
 --
---   slice               what the copies hold at a version
---   saying, free        the back link that speaks of a link; a back link that is free
---   emptied, filled, relinked     the fields that the change of a link writes, at most three
---   crowded             the new target has no back link free: a third link
---   relink              the change of a link
---   set_number           the change of a number field
---   LinkTarget          what a link may be set to
---   TwoOthers           two other links name a copy
+--   slice                       what the copies hold at a version
+--   saying, free                the back link that speaks of a link; a back link that is free
+--   emptied, filled, relinked   the fields that the change of a link writes, at most three
+--   crowded                     the new target has no back link free: a third link
+--   relink                      the change of a link
+--   set_number                  the change of a number field
+--   LinkTarget                  what a link may be set to
+--   TwoOthers                   two other links name a copy
 --   RelinkSound, CrowdedMeans, SetNumberSound
 --
 -- Which of two free back links is filled is a choice of this definition: nothing that a version reads depends on it.

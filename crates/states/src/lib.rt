@@ -1,5 +1,7 @@
 // States: what the copies stand for, version by version, and what each step of a splitting memory does to it. No code of tables;
 // each function below states theorems, which its proof gives.
+#![tactic(auto)]
+
 ghost use Rattle.states.specs.Listed.{BehindListed, OpenListed, PositionsStand, ThirdLink};
 ghost use Rattle.states.specs.Nodes.{MakeMeans, OpenMeans, RelinkMeans, SetNumberMeans, SplitMeans, SplitRegister, StateClosed};
 ghost use Rattle.states.specs.Relinks.{CrowdedMeans, RelinkSound, SetNumberSound};

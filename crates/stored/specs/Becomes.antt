@@ -1,10 +1,10 @@
 -- What a row of steps makes of the tree under a register. Registers 0 to 25 hold a path down a tree, each the root of a subtree; those
 -- from 26 on are used on the way, of which 35 to 37 are kept: 35 is nil.
 --
---   Cost, cost, nothing, plus, writes    how many link and root writes, number writes and new nodes
---   Ready         a tree under a register that may be changed
---   Shifts        a tree under a register, made of given nodes, and all else as before
---   Becomes       the tree under a register has become another
+--   Cost, cost, nothing, plus, writes   how many link and root writes, number writes and new nodes
+--   Ready                               a tree under a register that may be changed
+--   Shifts                              a tree under a register, made of given nodes, and all else as before
+--   Becomes                             the tree under a register has become another
 use Rattle.std.specs.Prelude.{◌≡◌, ℕ, ◌+◌, ◌<◌, ◌≤◌, Bool, true}
 use Rattle.trees.specs.Trees.{Tree, root_of, occurrences, Distinct}
 use Rattle.memory.specs.Memory.{Memory}

@@ -1,12 +1,12 @@
 -- Trees that stand in a memory: their nodes by serial number, their links, and how often each node is named.
 --
---   side          the number of a side's link: link 0 is left, link 1 right
---   NodeAt        a node of a tree stands in the memory: its key place, value, mark and both links
---   Stored        all nodes of a tree stand in the memory
---   inside        how often the links inside a tree name a node
---   NamedOnce     each node of a tree has one name at most
---   as_rank        a rank is written as it is
---   colour        the number of a colour: black 0, red 1
+--   side        the number of a side's link: link 0 is left, link 1 right
+--   NodeAt      a node of a tree stands in the memory: its key place, value, mark and both links
+--   Stored      all nodes of a tree stand in the memory
+--   inside      how often the links inside a tree name a node
+--   NamedOnce   each node of a tree has one name at most
+--   as_rank     a rank is written as it is
+--   colour      the number of a colour: black 0, red 1
 use Rattle.std.specs.Prelude.{◌≡◌, ℕ, ◌+◌, ◌≤◌, Bool, true, false, cond, not, Some, Option}
 use Rattle.trees.specs.Trees.{Entry, Tree, leaf, node, root_of, occurrences}
 use Rattle.memory.specs.Memory.{Node, Memory, hits}

@@ -1,7 +1,7 @@
 -- What holds of the steps that all rows on trees are made of.
 --
 --   RotationTurns    a rotation makes of the tree under its register the rotated tree, by two link writes
---   IdleWritesHold       a link, number or root that holds what it should is not written
+--   IdleWritesHold   a link, number or root that holds what it should is not written
 use Rattle.std.specs.Prelude.{◌≡◌, ℕ, ◌+◌, ◌<◌, ◌≤◌, Bool, true, Option, ◌≢◌}
 use Rattle.trees.specs.Trees.{Tree, is_node, child, rotated}
 use Rattle.memory.specs.Memory.{Node, State, Memory, changed}

@@ -1,11 +1,11 @@
 -- Writes that are made only where they alter something, and the rotation. Register 32 is used on the way.
 --
 --   relink_of, renumber_of, resave_of   the steps that write a link, a number or a root where it differs
---   rotate_of                         the steps that make a child the root of the tree under a register
---   blank_of                          both links of a node taken out become nil, even where they are
---   Edited                           one node has become another, by at most so many writes
---   Relinked, Renumbered, Resaved    a link, a number, a root holds what it should
---   Cleared                          a node has no links
+--   rotate_of                           the steps that make a child the root of the tree under a register
+--   blank_of                            both links of a node taken out become nil, even where they are
+--   Edited                              one node has become another, by at most so many writes
+--   Relinked, Renumbered, Resaved       a link, a number, a root holds what it should
+--   Cleared                             a node has no links
 use Rattle.std.specs.Prelude.{◌≡◌, ℕ, ◌+◌, ◌≤◌, Bool, true, false, cond, not, Some, None, Option, ◌==◌, ◌≢◌}
 use Rattle.memory.specs.Memory.{Node, Memory, hits}
 use Rattle.memory.specs.Steps.{Done, done, then, load_of, follow_of, move_of, number_of, same_of, save_of, link_of, set_number_of}

@@ -1,9 +1,9 @@
 -- When a table of copies is in order, and when it has become other copies.
 --
---   AllStored, Fielded     entries, and a table, of fields that a row has a place for
---   InOrder       the table's copies are sound over the order, each knows the next of its node, and its rows are placed
---   Becomes       after a call the table holds the given copies, with so many entries more ever used
---   FreeRows, FreeCopy     so many rows of entries are free; a copy is free
+--   AllStored, Fielded   entries, and a table, of fields that a row has a place for
+--   InOrder              the table's copies are sound over the order, each knows the next of its node, and its rows are placed
+--   Becomes              after a call the table holds the given copies, with so many entries more ever used
+--   FreeRows, FreeCopy   so many rows of entries are free; a copy is free
 use Rattle.std.specs.Prelude.{◌≡◌, ℕ, ◌+◌, ◌<◌, ◌≤◌, true, List, [], ◌∷◌, length, vec_len, Option, ◌≢◌}
 use Rattle.fields.specs.declared.kinds.Value.{Value}
 use Rattle.entries.specs.Entries.{Entry}

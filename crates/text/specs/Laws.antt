@@ -2,7 +2,7 @@
 --
 --   NumbersReadBack, NumbersAreWritten     for unsigned numbers of up to 64 bits
 --   IntegersReadBack, IntegersAreWritten   for signed 32-bit numbers
---   PartsJoin, PartsSplit                    for parts with a byte between them, as words
+--   PartsJoin, PartsSplit                  for parts with a byte between them, as words
 --   PiecesReadBack, PiecesAreWritten       for piece keys
 --   JobsReadBack, JobsAreWritten           for job keys
 --

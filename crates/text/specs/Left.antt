@@ -1,6 +1,6 @@
 -- A text read part by part.
 --
---   left          the parts that are not read yet
+--   left           the parts that are not read yet
 --   first_of       the first of some parts, or nothing
 --   behind_first   the parts behind the first one
 --   read_first     what is read from the first part, or nothing

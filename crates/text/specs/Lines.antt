@@ -1,6 +1,6 @@
 -- The lines of a text that are to be answered.
 --
---   told         a line is to be answered: it is not empty and does not start with #
+--   told          a line is to be answered: it is not empty and does not start with #
 --   next_told     the first such line, or nothing
 --   behind_told   the lines behind it
 use Rattle.std.specs.Prelude.{ℕ, Bool, true, false, cond, not, List, [], ◌∷◌, Some, None, Option, ◌==◌}

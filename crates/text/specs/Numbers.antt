@@ -1,11 +1,11 @@
 -- Decimal numbers as bytes.
 --
---   worth       the number that digits write
+--   worth        the number that digits write
 --   well_begun   not empty, and no zero in front of other bytes
---   numeral     digits without a leading zero
+--   numeral      digits without a leading zero
 --   number_of    the number below 2 ^ k that a text writes, or nothing
 --   integer_of   the signed 32-bit number that a text writes, or nothing
---   both        what two values make, where both are there
+--   both         what two values make, where both are there
 --   numbers_of   the 64-bit numbers that some texts write, where each one does
 use Rattle.std.specs.Prelude.{ℕ, ◌+◌, ◌-◌, ◌*◌, ◌^◌, Bool, true, false, cond, not, ◌&&◌, List, [], ◌∷◌, length, drop, ℤ, pos, negsuc, Some, None, Option, ◌==◌, nat_le, nat_lt, slice_index}
 use Rattle.std.specs.Str.{all_ascii_digits}

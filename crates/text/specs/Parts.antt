@@ -1,11 +1,11 @@
 -- A text cut into parts at each byte s: words at spaces, lines at line feeds.
 --
---   up_to       the text before the first s
---   beyond     the text behind the first s, or nothing
---   parts      all parts; two s in a row have an empty part between them
---   joined     the text of some parts, with s between them
---   Without    a part has no s
---   words      the parts at spaces
+--   up_to     the text before the first s
+--   beyond    the text behind the first s, or nothing
+--   parts     all parts; two s in a row have an empty part between them
+--   joined    the text of some parts, with s between them
+--   Without   a part has no s
+--   words     the parts at spaces
 use Rattle.std.specs.Prelude.{◌≡◌, ℕ, cond, List, [], ◌∷◌, ◌++◌, Some, None, Option, ◌==◌, ◌≢◌}
 
 -- the text before the first s

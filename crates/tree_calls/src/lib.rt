@@ -1,5 +1,7 @@
 // Calls that map and queues share, over any memory and any order: writes that are made only where they alter something, rotation, and
 // the links of a node taken out. Each runs its row of steps, from whatever its memory means.
+#![tactic(auto)]
+
 ghost use Rattle.memory.specs.Promises.{Runs};
 ghost use Rattle.stored.specs.Stored.{side};
 ghost use Rattle.stored.specs.Writes.{relink_of, renumber_of, resave_of, rotate_of, blank_of};

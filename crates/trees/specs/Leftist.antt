@@ -1,14 +1,14 @@
 -- Leftist heaps: the mark of a node is its rank.
 --
---   rank             the rank that the root's mark says; nil has rank 0
---   Leftist          the left rank is at least the right, and a node's mark is one more than the smaller child's rank
---   RootNotBefore    the root's key does not go before a key
---   HeapOrdered      no key goes before its parent's
---   joined           a node over two heaps, the one of the larger rank on the left
---   merged           two heaps in one
---   same_key          two keys of which neither goes before the other
---   waiting          how often a key waits in a heap
---   NoneBefore       no key of a heap goes before a key
+--   rank            the rank that the root's mark says; nil has rank 0
+--   Leftist         the left rank is at least the right, and a node's mark is one more than the smaller child's rank
+--   RootNotBefore   the root's key does not go before a key
+--   HeapOrdered     no key goes before its parent's
+--   joined          a node over two heaps, the one of the larger rank on the left
+--   merged          two heaps in one
+--   same_key        two keys of which neither goes before the other
+--   waiting         how often a key waits in a heap
+--   NoneBefore      no key of a heap goes before a key
 use Rattle.std.specs.Prelude.{◌≡◌, ℕ, zero, suc, ◌+◌, ◌≤◌, min, Bool, true, false, cond, not, ◌&&◌, nat_le}
 use Rattle.trees.specs.Trees.{Entry, Tree, leaf, node, sum_over}
 

@@ -1,12 +1,12 @@
 -- Sorted lists of entries, and what the calls of a map make of them and answer from them.
 --
---   KeyOrder      what is asked of the order of keys
---   AllAfter      a key goes before every key of a list
---   Sorted        every key goes before the keys behind it
---   list_put       the list with a key's value set
---   list_drop      the list without a key
---   list_get       the value of a key, or nothing
---   list_next      the first entry above a key, or nothing
+--   KeyOrder    what is asked of the order of keys
+--   AllAfter    a key goes before every key of a list
+--   Sorted      every key goes before the keys behind it
+--   list_put    the list with a key's value set
+--   list_drop   the list without a key
+--   list_get    the value of a key, or nothing
+--   list_next   the first entry above a key, or nothing
 use Rattle.std.specs.Prelude.{◌≡◌, ℕ, Bool, true, false, cond, List, [], ◌∷◌, Some, None, Option}
 use Rattle.trees.specs.Trees.{Entry, entry}
 

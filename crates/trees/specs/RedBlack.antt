@@ -1,16 +1,16 @@
 -- Red-black trees: the mark of a node is its colour, true for red. Insertion.
 --
---   red               whether the root is red; nil is black
---   blacks_on          the black nodes on a way down to nil
---   NoRedPair         no red node has a red child
---   RedBlack          the rules: a black root, no red child of a red node, as many black nodes on every way down
---   black_height       the black nodes on the way down to the left
---   Balanced          the rules but for the root's colour, stated for each subtree
---   AlmostBalanced    the same, but a red root may have one red child
---   holds             whether a key is in the tree
---   replaced          the tree with another value at a key
---   insert_fixed       a tree whose child on a side may be a red node with a red child, put right
---   inserted          the tree with a new entry
+--   red              whether the root is red; nil is black
+--   blacks_on        the black nodes on a way down to nil
+--   NoRedPair        no red node has a red child
+--   RedBlack         the rules: a black root, no red child of a red node, as many black nodes on every way down
+--   black_height     the black nodes on the way down to the left
+--   Balanced         the rules but for the root's colour, stated for each subtree
+--   AlmostBalanced   the same, but a red root may have one red child
+--   holds            whether a key is in the tree
+--   replaced         the tree with another value at a key
+--   insert_fixed     a tree whose child on a side may be a red node with a red child, put right
+--   inserted         the tree with a new entry
 use Rattle.std.specs.Prelude.{◌≡◌, ℕ, suc, ◌+◌, Bool, true, false, cond, not, ◌&&◌, ◌||◌}
 use Rattle.trees.specs.Trees.{Entry, entry, Tree, leaf, node, child, with_child, with_mark, rotated}
 

@@ -1,17 +1,17 @@
 -- Removal from a red-black tree. A subtree may come back one black node short; its parent makes up for it or passes it on.
 --
---   Shrunk            a tree, and whether it has one black node fewer on every way down
---   Shrinks           what removal from a subtree keeps
---   sibling_fixed      a tree whose side is one black node short, where the other child is black
---   short_fixed        the same, where the other child may be red
---   spliced           a node is gone, with its only child in its place
---   step_up            the child on a side replaced by what removal left of it
---   without_first      the tree without its first node
---   first_entry        the entry of the first node
---   first_serial       the serial number of the first node
---   without_root       the tree without its root
---   removed           the tree without a key
---   removed_serial     the serial number of the node with a key
+--   Shrunk           a tree, and whether it has one black node fewer on every way down
+--   Shrinks          what removal from a subtree keeps
+--   sibling_fixed    a tree whose side is one black node short, where the other child is black
+--   short_fixed      the same, where the other child may be red
+--   spliced          a node is gone, with its only child in its place
+--   step_up          the child on a side replaced by what removal left of it
+--   without_first    the tree without its first node
+--   first_entry      the entry of the first node
+--   first_serial     the serial number of the first node
+--   without_root     the tree without its root
+--   removed          the tree without a key
+--   removed_serial   the serial number of the node with a key
 use Rattle.std.specs.Prelude.{◌≡◌, ℕ, ◌+◌, Bool, true, false, cond, not, ◌&&◌, ◌||◌}
 use Rattle.trees.specs.Trees.{Entry, Tree, leaf, node, is_node, child, with_child, with_mark, rotated}
 use Rattle.trees.specs.RedBlack.{red, black_height, Balanced}

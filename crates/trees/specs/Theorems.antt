@@ -1,16 +1,16 @@
 -- What holds of the trees of a map and of the heaps of a queue, for every key type and every order of its keys.
 --
---   MapTree, Heap           the invariants of a map's tree and of a queue's heap
---   put_tree, drop_tree       the tree after put and after drop
---   single, pushed, popped  a heap of one job; the heap after push and after pop
---   PutSets                put sets a key's value and keeps the invariant
---   DropRemoves            drop removes a key and keeps the invariant
---   TreeAnswers            a key is in the tree exactly when the list answers its value
---   ListLawsHold               put, drop and get on sorted lists
---   RulesAreBalanced      the rules of red-black trees, and the form in which proofs carry them
---   MergeJoins             merge keeps both heaps' jobs, each as often as it waits there
---   PushAdds, PopTakes    push adds its job; pop takes a first one
---   MapIsLow, HeapIsLow a map of at most 4,096 nodes is at most 24 high; such a heap's rank is at most 12
+--   MapTree, Heap            the invariants of a map's tree and of a queue's heap
+--   put_tree, drop_tree      the tree after put and after drop
+--   single, pushed, popped   a heap of one job; the heap after push and after pop
+--   PutSets                  put sets a key's value and keeps the invariant
+--   DropRemoves              drop removes a key and keeps the invariant
+--   TreeAnswers              a key is in the tree exactly when the list answers its value
+--   ListLawsHold             put, drop and get on sorted lists
+--   RulesAreBalanced         the rules of red-black trees, and the form in which proofs carry them
+--   MergeJoins               merge keeps both heaps' jobs, each as often as it waits there
+--   PushAdds, PopTakes       push adds its job; pop takes a first one
+--   MapIsLow, HeapIsLow      a map of at most 4,096 nodes is at most 24 high; such a heap's rank is at most 12
 use Rattle.std.specs.Prelude.{◌≡◌, ℕ, suc, ◌+◌, ◌≤◌, Bool, true, false, cond, List, [], ◌∷◌, is_some, Some, None, Option, ◌==◌}
 use Rattle.trees.specs.Trees.{Entry, entry, Tree, leaf, node, with_mark, entries, height, sum_over, size, occurrences}
 use Rattle.trees.specs.Lists.{KeyOrder, Sorted, list_put, list_drop, list_get}

@@ -1,21 +1,21 @@
 -- Binary trees whose nodes have serial numbers: the shape of the map and of the queues. A side is a Bool: false is left, true is right.
 --
---   Entry, entry      a key with its value
---   Tree              leaf, or node: serial number, mark, entry, left and right subtree
---   is_node            whether the tree has a root
---   root_of            the serial number of the root, or nothing
---   child             the subtree on a side
---   with_child         the tree with another subtree on a side
---   with_mark          the tree with another mark at its root
---   node_on            a node, given by the subtree on a side and the subtree on the other side
---   rotated           the child on a side has become the root
---   entries_onto       the entries in order, in front of a list
---   entries           the entries in order
---   height            the nodes on the longest way down
---   sum_over           the sum of a number given for each node
---   size              the number of nodes
---   occurrences       how often a serial number stands in the tree
---   Distinct          no serial number stands twice
+--   Entry, entry   a key with its value
+--   Tree           leaf, or node: serial number, mark, entry, left and right subtree
+--   is_node        whether the tree has a root
+--   root_of        the serial number of the root, or nothing
+--   child          the subtree on a side
+--   with_child     the tree with another subtree on a side
+--   with_mark      the tree with another mark at its root
+--   node_on        a node, given by the subtree on a side and the subtree on the other side
+--   rotated        the child on a side has become the root
+--   entries_onto   the entries in order, in front of a list
+--   entries        the entries in order
+--   height         the nodes on the longest way down
+--   sum_over       the sum of a number given for each node
+--   size           the number of nodes
+--   occurrences    how often a serial number stands in the tree
+--   Distinct       no serial number stands twice
 use Rattle.std.specs.Prelude.{◌≡◌, ℕ, suc, ◌+◌, ◌≤◌, max, Bool, true, false, cond, not, List, [], ◌∷◌, Some, None, Option, ◌==◌}
 
 -- a key, or a key's place in a book, with its value

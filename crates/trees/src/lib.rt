@@ -1,5 +1,7 @@
 // The trees of the map and of the queues, as plain values: what insertion, removal and merge make of them. Each function here names
 // theorems by its contract; nothing of it is run.
+#![tactic(auto)]
+
 ghost use Rattle.trees.specs.Theorems.{PutSets, DropRemoves, TreeAnswers, ListLawsHold, RulesAreBalanced, MergeJoins, PushAdds, PopTakes, MapIsLow, HeapIsLow};
 
 // Put sets a key's value in the tree's list, drop removes the key, and both keep the rules of a map's tree.

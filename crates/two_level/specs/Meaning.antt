@@ -1,13 +1,13 @@
 -- What a two-level list means.
 --
---   two_level_items     its items, first to last
---   group_of           the number of an item's group
---   rank_of            the rank of an item in its group, which the rules leave free
---   two_level_blocks    the items, group by group
---   group_entries      the groups, first to last, each with its label
---   Kept              the groups hold the items, each group has 1 to 32, and ranks rise along each
---   Started           the list has just been made
---   group_label_answer  the label of an item's group; refused 31
+--   two_level_items      its items, first to last
+--   group_of             the number of an item's group
+--   rank_of              the rank of an item in its group, which the rules leave free
+--   two_level_blocks     the items, group by group
+--   group_entries        the groups, first to last, each with its label
+--   Kept                 the groups hold the items, each group has 1 to 32, and ranks rise along each
+--   Started              the list has just been made
+--   group_label_answer   the label of an item's group; refused 31
 use Rattle.std.specs.Prelude.{◌≡◌, ℕ, cond, List, [], ◌∷◌, Ok, Err, vec_items, Result}
 use Rattle.refusals.specs.declared.kinds.OrderRefusal.{OrderRefusal}
 use Rattle.refusals.specs.declared.kinds.OrderRefusal.TheVariants.{UnknownItem}
