@@ -16,7 +16,7 @@ import sys
 FILES = ("Answers.antt", "Invariants.antt", "Proof.antt")
 TOKEN = re.compile(r"[^\s(){};,.«»\"|]+")
 # what the general rule would bring together with another name, or with a word of the language or the library
-OTHERWISE = {"Idle-writes": "IdleWritesHold", "Ways-to": "WaysToHold", "List-laws": "ListLawsHold", "blocks-F": "blocks_f", "listed-F": "listed_f", "rising-F": "rising_f"}
+OTHERWISE = {"Idle-writes": "IdleWritesHold", "Ways-to": "WaysToHold", "List-laws": "ListLawsHold", "Top-answers": "TopAnswersHold", "blocks-F": "blocks_f", "listed-F": "listed_f", "rising-F": "rising_f"}
 # a field and a word of the source, or a module's path and a word, which share a name without meeting
 APART = {"getDrop", "nodeLimit", "changeLimit", "versionAt", "placeFirst"}
 

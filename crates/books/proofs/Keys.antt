@@ -1,5 +1,5 @@
 -- The written front of a slice.
-use Rattle.std.proofs.Common.{◌≡◌, ℕ, zero, suc, ◌<◌, ◌≤◌, List, [], ◌∷◌, length, get_or, take, Some, None, Option, refl, ap, le_of_suc-le-suc, not-suc-le-zero}
+use Rattle.std.proofs.Common.{◌≡◌, ℕ, zero, suc, ◌<◌, ◌≤◌, List, [], ◌∷◌, length, get_or, take, Some, None, refl, ap, le_of_suc-le-suc, not-suc-le-zero}
 use Rattle.std.specs.List.{slice_get}
 
 -- the key at a place of the front

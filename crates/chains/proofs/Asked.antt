@@ -1,5 +1,5 @@
 -- What the table knows of a call that it answers.
-use Rattle.std.proofs.Common.{◌≡◌, ℕ, ◌-◌, ◌<◌, true, eqb, ltb, vec_items, sym, subst}
+use Rattle.std.proofs.Common.{◌≡◌, ℕ, ◌<◌, true, eqb, ltb, vec_items, sym, subst}
 use Rattle.entries.specs.Entries.{both}
 use Rattle.slices.proofs.Serving.{both_true, lt_is, eq_is}
 use Rattle.chain_rows.specs.declared.row.Chain.{Chain}

@@ -92,8 +92,10 @@ mod tests {
     #[test]
     fn lengths_of_names(rt: HostRuntime) -> Result<(), Fail> {
         assert!(rt; no_name(b"") && no_name(b"abcdefghijklmnopq"));
-        assert!(rt; NameKey::new(b"a")?.as_bytes() == b"a");
-        assert!(rt; NameKey::new(b"abcdefghijklmnop")?.as_bytes() == b"abcdefghijklmnop");
+        assert!(rt; NameKey::new(b"a")?.as_bytes() == b"a".as_slice());
+        assert!(rt;
+            NameKey::new(b"abcdefghijklmnop")?.as_bytes() == b"abcdefghijklmnop".as_slice()
+        );
         Ok(())
     }
 

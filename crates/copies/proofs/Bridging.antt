@@ -1,11 +1,10 @@
 -- Rows stay placed under a change, and a copy whose naming fields were redirected is the redirected copy.
-use Rattle.std.proofs.Common.{◌≡◌, ℕ, ◌+◌, ◌<◌, ◌≤◌, Bool, true, cond, leb, length, vec_len, sym, refl, ap, ◌∙◌, subst, arith}
+use Rattle.std.proofs.Common.{◌≡◌, ℕ, ◌+◌, ◌<◌, ◌≤◌, Bool, true, vec_len, sym, ◌∙◌, subst, arith}
 use Rattle.std.proofs.lemmas.Bool.{lt-leb}
 use Rattle.fields.specs.declared.kinds.Value.{Value}
 use Rattle.slices.specs.Splits.{naming}
-use Rattle.slices.specs.Partners.{redirects, redirected_copy}
-use Rattle.chains.specs.Views.{asked, entries_of}
-use Rattle.copy_rows.specs.declared.row.CopyRow.{CopyRow}
+use Rattle.slices.specs.Partners.{redirected_copy}
+use Rattle.chains.specs.Views.{asked}
 use Rattle.copy_rows.specs.Rows.{first_of}
 use Rattle.copies.specs.declared.table.CopyTable.{CopyTable}
 use Rattle.copies.specs.Views.{Placed, RedirectsAll, Changes, row_at, copy_of}

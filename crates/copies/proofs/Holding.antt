@@ -1,5 +1,5 @@
 -- The entries of a copy after the version behind a change keeps its value.
-use Rattle.std.proofs.Common.{◌≡◌, ℕ, ◌+◌, ◌-◌, ◌≤◌, Bool, true, cond, List, length, vec_len, sym, refl, ap, ◌∙◌, subst, arith}
+use Rattle.std.proofs.Common.{◌≡◌, ℕ, ◌+◌, Bool, true, cond, List, length, sym, refl, ap, ◌∙◌, subst, arith}
 use Rattle.fields.specs.declared.kinds.Value.{Value}
 use Rattle.entries.specs.Entries.{Entry, keep}
 use Rattle.entries.proofs.Counting.{keep_adds}

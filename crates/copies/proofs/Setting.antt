@@ -1,20 +1,19 @@
 -- A field of a copy after its change: a new first value, or an entry.
-use Rattle.std.proofs.Common.{◌≡◌, ℕ, ◌+◌, ◌-◌, ◌<◌, ◌≤◌, Bool, true, false, cond, eqb, ltb, List, length, vec_len, sym, refl, ap, ◌∙◌, subst, inl, inr, arith}
+use Rattle.std.proofs.Common.{◌≡◌, ℕ, ◌+◌, ◌<◌, ◌≤◌, Bool, true, false, cond, eqb, ltb, List, length, vec_len, sym, ap, ◌∙◌, subst, inl, inr, arith}
 use Rattle.std.proofs.lemmas.Bool.{cases_Bool, cases_eq, eq-eqb, ne_eqb}
 use Rattle.fields.specs.declared.kinds.Value.{Value}
 use Rattle.order.specs.Items.{member, known, position}
-use Rattle.entries.specs.Entries.{Entry, both, keep, put}
+use Rattle.entries.specs.Entries.{Entry, both, put}
 use Rattle.entries.proofs.Counting.{keep_adds, put_adds}
 use Rattle.slices.specs.Copies.{Copy, value_at}
-use Rattle.slices.specs.Changes.{changed}
 use Rattle.chain_rows.proofs.Orders.{apart}
 use Rattle.chains.specs.declared.table.ChainTable.{ChainTable}
 use Rattle.chains.specs.Views.{Alters, asked, entries_of}
 use Rattle.chains.proofs.Asked.{is_asked}
 use Rattle.copy_rows.specs.declared.row.CopyRow.{CopyRow}
-use Rattle.copy_rows.specs.Rows.{first_of, stored, Renewed}
+use Rattle.copy_rows.specs.Rows.{first_of, Renewed}
 use Rattle.copies.specs.declared.table.CopyTable.{CopyTable}
-use Rattle.copies.specs.Views.{Placed, RowSet, Holds, Changes, held, row_at, copy_of}
+use Rattle.copies.specs.Views.{RowSet, Holds, Changes, held, row_at, copy_of}
 use Rattle.copies.proofs.Owning.{in_rows}
 
 -- a copy by its row and its entries

@@ -1,5 +1,5 @@
 -- One item more, right behind another: the walks that find its group, and what the rows then mean.
-use Rattle.std.proofs.Common.{◌≡◌, ℕ, ◌+◌, ◌*◌, ◌<◌, ◌≤◌, true, false, ◌⊎◌, List, [], ◌∷◌, ◌++◌, length, IfSome, Some, None, Option, sym, refl, ap, ◌∙◌, subst, inl, inr, arith}
+use Rattle.std.proofs.Common.{◌≡◌, ℕ, ◌+◌, ◌*◌, ◌<◌, ◌≤◌, true, ◌⊎◌, List, [], ◌∷◌, ◌++◌, length, IfSome, Some, None, Option, sym, refl, ap, ◌∙◌, subst, inl, inr, arith}
 use Rattle.std.proofs.lemmas.Bool.{cases_eq, cases_Bool, ne_eqb, false≢true, both_ways}
 use Rattle.grouping.proofs.Blocks.{member_left, member_right, inside_at, grouped_above, blocks_are, groups_few}
 use Rattle.grouping.proofs.Found.{Found, find, flat_parts, home_parts, same_groups, more_groups, Numbered, Parted}

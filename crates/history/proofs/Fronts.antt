@@ -1,5 +1,5 @@
 -- A loop over the places of a list: its front with one element more, and all of it.
-use Rattle.std.proofs.Common.{◌≡◌, ℕ, zero, suc, ◌+◌, ◌≤◌, List, [], ◌∷◌, ◌++◌, length, take, Some, None, sym, refl, ap, subst, add-one, arith, take_all}
+use Rattle.std.proofs.Common.{◌≡◌, ℕ, zero, suc, ◌+◌, ◌≤◌, List, [], ◌∷◌, ◌++◌, length, take, Some, None, refl, ap, subst, add-one, arith, take_all}
 use Rattle.std.specs.List.{slice_get}
 
 take_next : {Y : Type 0} (xs : List Y) (i : ℕ) (y : Y) → Some y ≡ slice_get xs i → take i xs ++ y ∷ [] ≡ take (suc i) xs

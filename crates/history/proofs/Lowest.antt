@@ -1,7 +1,6 @@
 -- The lowest recorded piece, with one pair more.
-use Rattle.std.proofs.Common.{◌≡◌, ℕ, ◌<◌, ◌≤◌, min, true, false, ◌⊎◌, List, [], ◌∷◌, ◌++◌, Some, None, Option, unwrap_or, sym, refl, inl, inr, arith}
+use Rattle.std.proofs.Common.{◌≡◌, ℕ, ◌≤◌, min, false, List, [], ◌∷◌, ◌++◌, Some, None, Option, unwrap_or, sym, inl, inr, arith}
 use Rattle.std.proofs.lemmas.Bool.{cases_lt}
-use Rattle.keys.specs.declared.piece.PieceKey.{PieceKey}
 use Rattle.history.specs.declared.record.NotedPiece.{NotedPiece}
 use Rattle.history.specs.Prints.{is_piece, print_at}
 use Rattle.history.specs.Verdicts.{LowestFrom}

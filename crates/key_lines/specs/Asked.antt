@@ -5,7 +5,7 @@
 --   job_answer     the answer to `job U N U N`, or nothing
 --   name_answer    the answer to `name "A" "B"`, or nothing; refused 14 where A or B has 0 or more than 16 bytes
 --   key_answer     the answer to a line
-use Rattle.std.specs.Prelude.{ℕ, Bool, true, false, cond, ◌&&◌, List, [], ◌∷◌, length, Some, None, codes, Option, nat_le}
+use Rattle.std.specs.Prelude.{ℕ, Bool, cond, ◌&&◌, List, [], length, Some, None, codes, Option, nat_le}
 use Rattle.refusals.specs.declared.kinds.NameRefusal.TheVariants.{Length}
 use Rattle.keys.specs.declared.piece.PieceKey.{PieceKey}
 use Rattle.keys.specs.declared.job.JobKey.{JobKey}

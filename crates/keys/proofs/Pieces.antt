@@ -1,6 +1,5 @@
 -- The piece rule: rounded up, the pieces are the fewest that hold all bytes.
-use Rattle.std.proofs.Common.{◌≡◌, ℕ, ◌+◌, ◌*◌, ◌/◌, ◌%◌, ◌<◌, ◌≤◌, sym, refl, ap, ◌∙◌, arith}
-use Rattle.keys.specs.Pieces.{piece_bytes, pieces}
+use Rattle.std.proofs.Common.{arith}
 use Rattle.keys.specs.Laws.{PiecesCover}
 
 pub pieces_cover : PiecesCover

@@ -3,7 +3,7 @@
 --   PiecesCover              a file's pieces are the fewest that hold all its bytes
 --   EqualNamesAreOne         names with the same bytes are the same value
 --   NamesByFirstDifference   which of two strings of bytes goes first, without a recursion
-use Rattle.std.specs.Prelude.{◌≡◌, ℕ, ◌*◌, ◌<◌, ◌≤◌, true, ◌⊎◌, List, ◌∷◌, ◌++◌, length}
+use Rattle.std.specs.Prelude.{◌≡◌, ℕ, ◌*◌, ◌<◌, ◌≤◌, true, ◌⊎◌, List, ◌∷◌, ◌++◌}
 use Rattle.keys.specs.declared.name.NameKey.{NameKey}
 use Rattle.keys.specs.Pieces.{piece_bytes, pieces}
 use Rattle.keys.specs.Bytes.{bytes_first}

@@ -1,5 +1,5 @@
 -- A new item leaves the labels rising.
-use Rattle.std.proofs.Common.{◌≡◌, ℕ, suc, ◌+◌, ◌-◌, ◌/◌, ◌^◌, ◌<◌, ◌≤◌, true, false, leb, [], ◌∷◌, length, sym, refl, subst, inl, inr, arith}
+use Rattle.std.proofs.Common.{◌≡◌, ℕ, suc, ◌+◌, ◌-◌, ◌/◌, ◌^◌, ◌<◌, ◌≤◌, true, leb, [], ◌∷◌, length, sym, refl, subst, inl, inr, arith}
 use Rattle.std.proofs.lemmas.Bool.{cases_lt, eq-eqb, ne_eqb, le-leb, lt-leb, false≢true, cond-true, cond-false}
 use Rattle.order.specs.Items.{member}
 use Rattle.order.proofs.Members.{member_cases}

@@ -1,10 +1,10 @@
 -- One item more right behind another: what the links and the labels then say.
-use Rattle.std.proofs.Common.{◌≡◌, ℕ, suc, ◌^◌, ◌<◌, ◌≤◌, true, false, List, [], ◌∷◌, length, Some, None, Option, sym, refl, ap, ◌∙◌, subst, inl, inr, arith}
+use Rattle.std.proofs.Common.{◌≡◌, ℕ, suc, ◌^◌, ◌<◌, ◌≤◌, true, List, [], ◌∷◌, length, Some, None, Option, sym, refl, ap, ◌∙◌, subst, inl, inr, arith}
 use Rattle.std.proofs.lemmas.Bool.{cases_eq, eq-eqb, ne_eqb, false≢true}
 use Rattle.linked_lists.proofs.Looks.{member_above}
 use Rattle.linked_lists.specs.Chain.{Linked, Backed, Above, walk}
 use Rattle.order.proofs.Members.{member_cases, member_here, member_there}
-use Rattle.order.specs.Items.{member, behind, front}
+use Rattle.order.specs.Items.{member, behind}
 
 pub linked_walk : (f : ℕ → Option ℕ) (o : Option ℕ) (xs : List ℕ) → Linked f o xs → walk f (length xs) o ≡ xs
 linked_walk f o [] h = refl

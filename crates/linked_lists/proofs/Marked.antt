@@ -1,5 +1,5 @@
 -- Items with their labels: what the list-level definitions read of the links and labels.
-use Rattle.std.proofs.Common.{◌≡◌, ℕ, suc, true, false, List, [], ◌∷◌, Option, sym, refl, ap, ◌∙◌, inl, inr}
+use Rattle.std.proofs.Common.{◌≡◌, ℕ, suc, true, List, [], ◌∷◌, Option, sym, refl, ap, ◌∙◌, inl, inr}
 use Rattle.std.proofs.lemmas.Bool.{cases_eq, eq-eqb, ne_eqb, false≢true}
 use Rattle.labels.specs.Laws.{Rising}
 use Rattle.labels.specs.Labels.{marked, items_of, label_of, next_label, head_label, placed}

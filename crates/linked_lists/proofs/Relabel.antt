@@ -1,5 +1,5 @@
 -- One item more, near or with new labels: the chain stands, and its entries are those of the definitions.
-use Rattle.std.proofs.Common.{◌≡◌, ℕ, suc, ◌+◌, ◌-◌, ◌/◌, ◌^◌, ◌<◌, ◌≤◌, true, false, leb, List, [], ◌∷◌, length, Some, None, Option, sym, refl, ap, ◌∙◌, subst, inl, inr, arith}
+use Rattle.std.proofs.Common.{◌≡◌, ℕ, suc, ◌+◌, ◌-◌, ◌/◌, ◌^◌, ◌<◌, ◌≤◌, true, leb, List, [], ◌∷◌, length, Some, None, Option, sym, refl, ap, ◌∙◌, subst, inl, inr, arith}
 use Rattle.std.proofs.lemmas.Bool.{cases_eq, eq-eqb, ne_eqb, le-leb, lt-leb, false≢true, both_ways, cond-true, cond-false}
 use Rattle.labels.proofs.Spreading.{loose_placed, count_placed, spread_rising}
 use Rattle.labels.proofs.Widening.{width_fits, capacity_le, base_le, below_base, base_top}

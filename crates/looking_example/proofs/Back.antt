@@ -1,5 +1,5 @@
 -- Entering, looking and coming back, over what a memory means.
-use Rattle.std.proofs.Common.{◌≡◌, ℕ, ◌<◌, ◌≤◌, Bool, true, false, cond, ltb, ◌⊎◌, IsErrAnd, Ok, Err, Result, sym, refl, ap, ◌∙◌, subst, ⊎_elim, arith}
+use Rattle.std.proofs.Common.{◌≡◌, ℕ, ◌<◌, ◌≤◌, Bool, IsErrAnd, Ok, Err, Result, sym, refl, ap, ◌∙◌, subst, ⊎_elim, arith}
 use mathlib.Core.Path.{subst⁻¹}
 use Rattle.std.proofs.lemmas.Bool.{cases_lt}
 use Rattle.std.proofs.lemmas.Result.{err_from_is_err_and}
@@ -7,11 +7,11 @@ use Rattle.refusals.specs.declared.kinds.OrderRefusal.TheVariants.{UnknownItem}
 use Rattle.refusals.specs.declared.kinds.MemoryRefusal.{MemoryRefusal}
 use Rattle.refusals.specs.declared.kinds.MemoryRefusal.TheVariants.{Order}
 use Rattle.memory.specs.Memory.{Memory, state_of, AllNil}
-use Rattle.memory.specs.Steps.{Done, done, no, with_reg, entered, is_nil, load_of, nil_of, enter_of}
-use Rattle.memory.specs.Promises.{Meets, MeetsIs, Comes}
+use Rattle.memory.specs.Steps.{done, no, with_reg, entered, is_nil, load_of, nil_of, enter_of}
+use Rattle.memory.specs.Promises.{Meets, Comes}
 use Rattle.memory.proofs.Numbers.{lt_true, lt_false}
 use Rattle.memory.proofs.Accepted.{enter_done}
-use Rattle.looking_example.specs.Looks.{root_nil_of, look_answer, Looks, Resting}
+use Rattle.looking_example.specs.Looks.{root_nil_of, Looks, Resting}
 
 enter_unknown : (v : ℕ) (m : Memory) → m.rest.versions ≤ v → enter_of v m ≡ no (Order UnknownItem)
 unfolding enter_of

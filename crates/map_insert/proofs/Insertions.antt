@@ -1,10 +1,10 @@
 -- Rows with a computed register or side, and one level of an insertion.
-use Rattle.std.proofs.Common.{◌≡◌, ℕ, zero, suc, ◌+◌, ◌-◌, ◌<◌, ◌≤◌, Bool, cond, not, Ok, Err, Result, refl, ap, subst, arith}
+use Rattle.std.proofs.Common.{◌≡◌, ℕ, suc, ◌+◌, ◌-◌, ◌<◌, ◌≤◌, Bool, cond, not, Err, Result, refl, ap, subst, arith}
 use mathlib.Core.Path.{subst⁻¹}
 use Rattle.refusals.specs.declared.kinds.MemoryRefusal.{MemoryRefusal}
 use Rattle.refusals.specs.declared.kinds.MemoryRefusal.TheVariants.{OutOfRange}
 use Rattle.memory.specs.Memory.{Memory}
-use Rattle.memory.specs.Steps.{Done, done, no, then, follow_of, key_of, nil_of, make_of}
+use Rattle.memory.specs.Steps.{Done, no, then, follow_of, key_of, nil_of, make_of}
 use Rattle.memory.specs.Promises.{Meets, Comes}
 use Rattle.stored.specs.Stored.{side}
 use Rattle.stored.specs.Writes.{relink_of}

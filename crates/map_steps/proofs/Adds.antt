@@ -1,28 +1,25 @@
 -- A new key is put into the map, from the root down and up again.
-use Rattle.std.proofs.Common.{◌≡◌, ℕ, zero, suc, ◌+◌, ◌*◌, ◌<◌, ◌≤◌, max, Bool, true, false, cond, not, eqb, Some, None, Option, sym, refl, ap, ◌∙◌, subst, arith}
+use Rattle.std.proofs.Common.{◌≡◌, ℕ, suc, ◌+◌, ◌*◌, ◌≤◌, Bool, true, false, cond, eqb, refl, ◌∙◌, arith}
 use Rattle.std.proofs.lemmas.Bool.Decides.{nat_tests}
-use Rattle.trees.specs.Trees.{Entry, entry, Tree, leaf, node, is_node, root_of, with_mark, occurrences, Distinct, height, size}
-use Rattle.trees.specs.RedBlack.{red, Balanced, AlmostBalanced, holds, inserted}
-use Rattle.trees.specs.Lists.{KeyOrder}
-use Rattle.trees.specs.Theorems.{put_tree}
+use Rattle.trees.specs.Trees.{Tree, leaf, node, is_node, root_of, with_mark, occurrences, height}
+use Rattle.trees.specs.RedBlack.{Balanced, AlmostBalanced, inserted}
 use Rattle.trees.proofs.Insertion.{grows, inserted_sum}
 use Rattle.trees.proofs.Rules.{to_balanced}
 use Rattle.trees.proofs.Heights.{low_height}
 use Rattle.trees.proofs.Maps.{put_sets}
-use Rattle.memory.specs.Memory.{Node, Memory, changed, put, hits}
-use Rattle.memory.specs.Steps.{Done, done, then, with_reg, load_of}
-use Rattle.memory.specs.Effects.{Ends, Free}
+use Rattle.memory.specs.Memory.{Memory}
+use Rattle.memory.specs.Steps.{with_reg}
 use Rattle.memory.proofs.Numbers.{put_same}
 use Rattle.memory.proofs.By.{ends_then, ends_all, by_load}
-use Rattle.stored.specs.Stored.{side, colour, as_rank, Stored, inside, NamedOnce}
-use Rattle.stored.specs.Writes.{renumber_of, resave_of, Spends}
-use Rattle.stored.specs.Becomes.{Cost, cost, plus, writes, Ready, Becomes}
-use Rattle.stored.specs.Whole.{Trees, Whole, Stands, Room, Spent}
-use Rattle.stored.proofs.Parts.{self, of-with_mark}
+use Rattle.stored.specs.Stored.{colour}
+use Rattle.stored.specs.Writes.{resave_of}
+use Rattle.stored.specs.Becomes.{cost, Ready}
+use Rattle.stored.specs.Whole.{Whole}
+use Rattle.stored.proofs.Parts.{of-with_mark}
 use Rattle.stored.proofs.Changes.{in_turn, by_mark}
-use Rattle.stored.proofs.Wholes.{none_of, Prepared, ready_first, once_first, fresh_name, prepared, save_ends, size_made}
+use Rattle.stored.proofs.Wholes.{none_of, ready_first, once_first, fresh_name, prepared, save_ends, size_made}
 use Rattle.map_steps.specs.Insert.{insert_of, add_of}
-use Rattle.map_steps.specs.Theorems.{MapIs, AddInserts}
+use Rattle.map_steps.specs.Theorems.{AddInserts}
 use Rattle.map_steps.proofs.InsertCosts.{insert_cost, insert_links, insert_numbers, insert_node}
 use Rattle.map_steps.proofs.Inserts.{Inserts, insert_ends}
 

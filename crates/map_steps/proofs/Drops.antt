@@ -1,26 +1,25 @@
 -- A key is taken out of the map, from the root down and up again.
-use Rattle.std.proofs.Common.{◌≡◌, ℕ, suc, ◌+◌, ◌*◌, ◌<◌, ◌≤◌, Bool, true, false, cond, eqb, Some, None, Option, sym, refl, ap, ◌∙◌, subst, inl, inr, arith}
-use Rattle.std.proofs.lemmas.Bool.Decides.{nat_tests, eqb_tells}
-use Rattle.trees.specs.Trees.{Tree, root_of, occurrences, height}
-use Rattle.trees.specs.RedBlack.{Balanced, holds}
+use Rattle.std.proofs.Common.{◌≡◌, ℕ, ◌+◌, ◌*◌, ◌≤◌, Bool, false, cond, eqb, Some, None, sym, refl, ap, ◌∙◌, inl, inr, arith}
+use Rattle.std.proofs.lemmas.Bool.Decides.{eqb_tells}
+use Rattle.trees.specs.Trees.{root_of, occurrences, height}
+use Rattle.trees.specs.RedBlack.{Balanced}
 use Rattle.trees.specs.Removal.{removed, removed_serial}
 use Rattle.trees.proofs.Maps.{drop_removes}
 use Rattle.trees.proofs.Rules.{to_balanced}
 use Rattle.trees.proofs.Heights.{low_height}
 use Rattle.trees.proofs.RemovedLists.{removed_occurrences}
-use Rattle.memory.specs.Memory.{Node, Memory, changed, put}
-use Rattle.memory.specs.Steps.{Done, done, then, with_reg, load_of}
-use Rattle.memory.specs.Effects.{Ends, Free}
+use Rattle.memory.specs.Memory.{Node, Memory}
+use Rattle.memory.specs.Steps.{with_reg}
 use Rattle.memory.proofs.Numbers.{put_same, put_other, some_same}
 use Rattle.memory.proofs.By.{ends_then, ends_all, by_load}
-use Rattle.stored.specs.Stored.{side, colour, as_rank}
+use Rattle.stored.specs.Stored.{side, colour}
 use Rattle.stored.specs.Writes.{resave_of}
-use Rattle.stored.specs.Becomes.{Ready, Becomes}
-use Rattle.stored.specs.Whole.{Trees, Whole, Stands, Room, Spent}
-use Rattle.stored.proofs.Wholes.{none_of, ready_first, once_first, prepared, save_ends, size_made}
+use Rattle.stored.specs.Becomes.{Ready}
+use Rattle.stored.specs.Whole.{Whole}
+use Rattle.stored.proofs.Wholes.{ready_first, once_first, prepared, save_ends, size_made}
 use Rattle.map_steps.specs.Remove.{way_to, remove_of, drop_of}
-use Rattle.map_steps.specs.Theorems.{MapIs, DropRemoves}
-use Rattle.map_steps.proofs.Firsts.{thrifty_all, over}
+use Rattle.map_steps.specs.Theorems.{DropRemoves}
+use Rattle.map_steps.proofs.Firsts.{thrifty_all}
 use Rattle.map_steps.proofs.Roots.{Bare, Removed}
 use Rattle.map_steps.proofs.Removes.{remove_cost, remove_thrifty, remove_ends}
 

@@ -1,25 +1,25 @@
 -- The node with a key is found; its value is read, or replaced.
-use Rattle.std.proofs.Common.{◌≡◌, ℕ, zero, suc, ◌+◌, ◌<◌, ◌≤◌, max, Bool, true, false, cond, not, eqb, List, [], ◌∷◌, is_some, Some, None, Option, sym, refl, ap, ◌∙◌, subst, arith}
-use Rattle.trees.specs.Trees.{Entry, entry, Tree, leaf, node, is_node, root_of, child, entries_onto, entries, occurrences, Distinct, height}
-use Rattle.trees.specs.Lists.{KeyOrder, AllAfter, Sorted, list_get}
-use Rattle.trees.specs.RedBlack.{Balanced, holds, replaced}
+use Rattle.std.proofs.Common.{◌≡◌, ℕ, zero, suc, ◌+◌, ◌<◌, ◌≤◌, Bool, true, false, List, [], ◌∷◌, Some, None, Option, sym, refl, ap, ◌∙◌, subst, arith}
+use Rattle.trees.specs.Trees.{Entry, Tree, leaf, node, root_of, entries_onto, entries, occurrences, Distinct, height}
+use Rattle.trees.specs.Lists.{KeyOrder, Sorted, list_get}
+use Rattle.trees.specs.RedBlack.{holds, replaced}
 use Rattle.trees.specs.Removal.{removed_serial}
-use Rattle.trees.proofs.Sorting.{after_earlier, sorted_rest, before_later, before_not_earlier, before_next}
+use Rattle.trees.proofs.Sorting.{sorted_rest, before_later, before_not_earlier, before_next}
 use Rattle.trees.proofs.Insertion.{by_test, replaced_occurrences}
 use Rattle.trees.proofs.RemovedLists.{get_skips, removed_occurrences}
 use Rattle.trees.specs.Theorems.{put_tree}
 use Rattle.trees.proofs.Maps.{put_sets, tree_answers, none_is}
 use Rattle.trees.proofs.Rules.{to_balanced}
 use Rattle.trees.proofs.Heights.{low_height}
-use Rattle.memory.specs.Memory.{Node, Memory, changed, put}
-use Rattle.memory.specs.Steps.{Done, done, then, with_reg, load_of, follow_of, key_of, number_of, nil_of}
-use Rattle.memory.specs.Effects.{Ends, Holds, Free}
-use Rattle.memory.proofs.Numbers.{put_same, put_other, some_same}
-use Rattle.memory.proofs.By.{ends_then, ends_all, ends_cond, by_load, by_follow, by_key, by_number, by_nil}
-use Rattle.stored.specs.Stored.{side, colour, as_rank, NodeAt, Stored}
+use Rattle.memory.specs.Memory.{Node, Memory}
+use Rattle.memory.specs.Steps.{Done, done, then, with_reg, follow_of, number_of}
+use Rattle.memory.specs.Effects.{Ends}
+use Rattle.memory.proofs.Numbers.{put_same, put_other}
+use Rattle.memory.proofs.By.{ends_then, ends_all, by_load, by_key, by_number, by_nil}
+use Rattle.stored.specs.Stored.{side, colour, as_rank, Stored}
 use Rattle.stored.specs.Writes.{renumber_of, Renumbered}
-use Rattle.stored.specs.Whole.{Trees, Whole, Stands, Room, Spent, Untouched}
-use Rattle.stored.proofs.Parts.{self, no_test, keep, keep_else}
+use Rattle.stored.specs.Whole.{Whole, Stands, Untouched}
+use Rattle.stored.proofs.Parts.{self, no_test, keep_else}
 use Rattle.stored.proofs.Nodes.{value_node}
 use Rattle.stored.proofs.Writing.{renumber_ends}
 use Rattle.stored.proofs.Wholes.{untouched, untouched_after, size_made}

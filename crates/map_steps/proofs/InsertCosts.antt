@@ -1,10 +1,10 @@
 -- What an insertion takes, by the height of the tree.
-use Rattle.std.proofs.Common.{◌≡◌, ℕ, suc, ◌+◌, ◌*◌, ◌≤◌, max, Bool, true, false, cond, not, ◌&&◌, ◌||◌, refl, arith}
-use Rattle.trees.specs.Trees.{Entry, Tree, leaf, node, child, with_child, with_mark, node_on, rotated, height}
-use Rattle.trees.specs.RedBlack.{red, black_height, Balanced, AlmostBalanced, insert_fixed, inserted}
+use Rattle.std.proofs.Common.{◌≡◌, ℕ, suc, ◌+◌, ◌*◌, ◌≤◌, Bool, true, false, cond, ◌&&◌, ◌||◌, refl, arith}
+use Rattle.trees.specs.Trees.{Entry, Tree, leaf, node, child, node_on, height}
+use Rattle.trees.specs.RedBlack.{red, Balanced, insert_fixed, inserted}
 use Rattle.trees.proofs.Insertion.{Grows, grows}
-use Rattle.stored.specs.Becomes.{Cost, cost, nothing, plus, writes}
-use Rattle.map_steps.proofs.InsertFixes.{red_pair, fix_cost}
+use Rattle.stored.specs.Becomes.{Cost, cost, plus}
+use Rattle.map_steps.proofs.InsertFixes.{fix_cost}
 
 pub by_test2 : {X Y : Type 0} (P : X → Y → Type 0) (b : Bool) (t u : X) (p q : Y) → (b ≡ true → P t p) → (b ≡ false → P u q) → P (cond b t u) (cond b p q)
 by_test2 P true t u p q x y = x refl

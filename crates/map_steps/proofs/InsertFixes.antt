@@ -1,19 +1,19 @@
 -- The steps of `insertFixOf` make `insertFixed` of the tree under their register.
-use Rattle.std.proofs.Common.{◌≡◌, ℕ, suc, ◌+◌, ◌<◌, ◌≤◌, Bool, true, false, cond, not, ◌&&◌, ◌||◌, eqb, Some, None, Option, sym, refl, ap, ◌∙◌, subst, arith}
-use Rattle.trees.specs.Trees.{Entry, Tree, leaf, node, is_node, root_of, child, with_child, with_mark, rotated, occurrences, Distinct}
+use Rattle.std.proofs.Common.{◌≡◌, ℕ, suc, ◌+◌, ◌<◌, ◌≤◌, Bool, true, false, cond, not, ◌&&◌, ◌||◌, sym, refl, ap, ◌∙◌, subst, arith}
+use Rattle.trees.specs.Trees.{Tree, is_node, root_of, child, with_child, with_mark, rotated, occurrences}
 use Rattle.trees.specs.RedBlack.{red, insert_fixed}
-use Rattle.memory.specs.Memory.{Node, Memory, changed, put, hits}
-use Rattle.memory.specs.Steps.{Done, done, then, with_reg, follow_of}
+use Rattle.memory.specs.Memory.{Memory, changed}
+use Rattle.memory.specs.Steps.{with_reg}
 use Rattle.memory.specs.Effects.{Ends}
 use Rattle.memory.proofs.Numbers.{put_same, put_other, hits_some}
 use Rattle.memory.proofs.By.{ends_then, ends_all, ends_cond, ends_last}
-use Rattle.stored.specs.Stored.{side, colour, Stored, inside, NamedOnce}
+use Rattle.stored.specs.Stored.{colour, NamedOnce}
 use Rattle.stored.specs.Writes.{relink_of, renumber_of, rotate_of}
 use Rattle.stored.specs.Becomes.{Cost, cost, nothing, plus, writes, Ready, Becomes}
-use Rattle.stored.proofs.Parts.{hits_root, of_children, of-with_child, root-with_child, node-with_child, child-with_child, other-with_child, root-with_mark, of-with_mark, node-with_mark, child-with_mark, root_of_lem, parent_node, of_rotated, node_rotated, stored_child}
+use Rattle.stored.proofs.Parts.{of_children, of-with_child, root-with_child, node-with_child, child-with_child, other-with_child, root-with_mark, of-with_mark, child-with_mark, root_of_lem, parent_node, of_rotated, node_rotated, stored_child}
 use Rattle.stored.proofs.Changes.{ready_child, stay, ready_scratch, from_scratch, both, ready_next, once_next, once_child, by_relink, by_mark, by_mark_child}
 use Rattle.stored.proofs.Turns.{turn}
-use Rattle.map_steps.specs.Insert.{red_of, recolour_of, straighten_of, raise_of, rotations_of, red_pair_of, insert_fix_of}
+use Rattle.map_steps.specs.Insert.{recolour_of, straighten_of, raise_of, rotations_of, red_pair_of, insert_fix_of}
 use Rattle.map_steps.proofs.Reds.{red_node, by_red, by_child}
 
 module _ {K : Type 0} where

@@ -1,18 +1,17 @@
 -- The steps of `insertOf` insert a key into the tree under their register.
-use Rattle.std.proofs.Common.{◌≡◌, ℕ, zero, suc, ◌+◌, ◌*◌, ◌<◌, ◌≤◌, max, Bool, true, false, cond, not, eqb, Some, None, Option, sym, refl, ap, ◌∙◌, subst, arith}
+use Rattle.std.proofs.Common.{◌≡◌, ℕ, zero, suc, ◌+◌, ◌*◌, ◌<◌, ◌≤◌, Bool, true, false, cond, not, eqb, Some, None, Option, sym, refl, ap, ◌∙◌, subst, arith}
 use Rattle.std.proofs.lemmas.Bool.Decides.{nat_tests}
-use Rattle.trees.specs.Trees.{Entry, entry, Tree, leaf, node, is_node, root_of, child, with_child, occurrences, Distinct, height}
-use Rattle.trees.specs.RedBlack.{red, Balanced, insert_fixed, inserted}
+use Rattle.trees.specs.Trees.{Entry, Tree, leaf, node, is_node, root_of, child, with_child, occurrences, height}
+use Rattle.trees.specs.RedBlack.{Balanced, insert_fixed, inserted}
 use Rattle.trees.proofs.Insertion.{inserted_sum}
-use Rattle.memory.specs.Memory.{Node, Memory, changed, put, hits, new_node}
-use Rattle.memory.specs.Steps.{Done, done, no, then, with_reg, born, follow_of, key_of, nil_of, make_of}
-use Rattle.memory.specs.Effects.{Ends, Holds}
+use Rattle.memory.specs.Memory.{Memory, changed, hits, new_node}
+use Rattle.memory.specs.Steps.{Done, with_reg, born, make_of}
+use Rattle.memory.specs.Effects.{Ends}
 use Rattle.memory.proofs.Numbers.{put_same, put_other, hits_some}
-use Rattle.memory.proofs.By.{ends_then, ends_all, ends_cond, ends_last, by_nil, by_key, by_make}
-use Rattle.stored.specs.Stored.{side, colour, Stored, inside, NamedOnce}
-use Rattle.stored.specs.Writes.{relink_of}
-use Rattle.stored.specs.Becomes.{Cost, cost, nothing, plus, writes, Ready, Becomes}
-use Rattle.stored.proofs.Parts.{self, hits_root, of_children, of-with_child, root-with_child, child-with_child, is_node_lem}
+use Rattle.memory.proofs.By.{ends_then, ends_all, ends_last, by_nil, by_key, by_make}
+use Rattle.stored.specs.Stored.{colour, NamedOnce}
+use Rattle.stored.specs.Becomes.{cost, plus, Ready, Becomes}
+use Rattle.stored.proofs.Parts.{hits_root, of_children, of-with_child, root-with_child, child-with_child, is_node_lem}
 use Rattle.stored.proofs.Changes.{ready_child, ready_scratch, from_scratch, in_turn, once_child, by_relink}
 use Rattle.map_steps.specs.Insert.{insert_fix_of, insert_step_of, insert_of}
 use Rattle.map_steps.proofs.Reds.{by_child}

@@ -1,15 +1,15 @@
 -- The first entry above a key.
-use Rattle.std.proofs.Common.{◌≡◌, ℕ, zero, suc, ◌+◌, ◌<◌, ◌≤◌, max, Bool, true, false, cond, not, List, [], ◌∷◌, Some, None, Option, sym, refl, ap, ◌∙◌, subst, arith}
+use Rattle.std.proofs.Common.{◌≡◌, ℕ, zero, suc, ◌+◌, ◌<◌, ◌≤◌, Bool, true, false, List, [], ◌∷◌, Some, None, Option, sym, refl, ap, ◌∙◌, subst, arith}
 use Rattle.trees.specs.Trees.{Entry, entry, Tree, leaf, node, root_of, entries_onto, entries, height}
 use Rattle.trees.specs.Lists.{KeyOrder, AllAfter, Sorted, list_next}
-use Rattle.trees.proofs.Sorting.{AllBefore, asymmetric, sorted_rest, before_later, before_not_earlier, before_next}
-use Rattle.memory.specs.Memory.{Node, Memory, put}
-use Rattle.memory.specs.Steps.{Done, done, then, with_reg, load_of, follow_of, key_of, number_of, nil_of}
+use Rattle.trees.proofs.Sorting.{AllBefore, asymmetric, sorted_rest, before_not_earlier, before_next}
+use Rattle.memory.specs.Memory.{Node, Memory}
+use Rattle.memory.specs.Steps.{done, then, with_reg, key_of, number_of}
 use Rattle.memory.specs.Effects.{Ends, Holds}
 use Rattle.memory.proofs.Numbers.{put_same, put_other}
 use Rattle.memory.proofs.By.{ends_then, ends_all, ends_cond, by_load, by_key, by_number, by_nil}
-use Rattle.stored.specs.Stored.{side, colour, NodeAt, Stored}
-use Rattle.stored.specs.Whole.{Trees, Whole, Stands, Untouched}
+use Rattle.stored.specs.Stored.{colour, Stored}
+use Rattle.stored.specs.Whole.{Untouched}
 use Rattle.stored.proofs.Wholes.{untouched, untouched_after}
 use Rattle.map_steps.specs.Find.{on_found, seek_of, next_of}
 use Rattle.map_steps.specs.Theorems.{Answers, NextAnswers}

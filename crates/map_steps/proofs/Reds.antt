@@ -1,13 +1,13 @@
 -- The colour of a register's node, and the child of one, off the front of a row; red children.
-use Rattle.std.proofs.Common.{◌≡◌, ℕ, suc, ◌+◌, ◌<◌, ◌≤◌, Bool, true, false, cond, not, ◌||◌, eqb, Some, None, Option, sym, refl, ap, ◌∙◌, arith}
-use Rattle.trees.specs.Trees.{Entry, Tree, leaf, node, is_node, root_of, child}
+use Rattle.std.proofs.Common.{◌≡◌, ℕ, ◌<◌, Bool, true, false, eqb, Some, None, refl, ◌∙◌}
+use Rattle.trees.specs.Trees.{Tree, leaf, node, is_node, root_of, child}
 use Rattle.trees.specs.RedBlack.{red}
-use Rattle.memory.specs.Memory.{Node, Memory, put}
-use Rattle.memory.specs.Steps.{Done, done, no, then, with_reg, is_nil, follow_of, number_of, nil_of}
-use Rattle.memory.specs.Effects.{Ends, Holds}
-use Rattle.memory.proofs.By.{ends_cond, by_nil, by_number, by_follow}
-use Rattle.stored.specs.Stored.{side, colour, NodeAt, Stored}
-use Rattle.stored.proofs.Parts.{side_low, no_test, root_of_lem, stored_root}
+use Rattle.memory.specs.Memory.{Memory}
+use Rattle.memory.specs.Steps.{Done, done, no, then, with_reg, follow_of, number_of, nil_of}
+use Rattle.memory.specs.Effects.{Ends}
+use Rattle.memory.proofs.By.{by_nil, by_number, by_follow}
+use Rattle.stored.specs.Stored.{side, colour, Stored}
+use Rattle.stored.proofs.Parts.{side_low, root_of_lem, stored_root}
 use Rattle.map_steps.specs.Insert.{red_of}
 
 pub red_node : (t : Tree Bool ℕ) → red t ≡ true → is_node t ≡ true

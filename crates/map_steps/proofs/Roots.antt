@@ -1,29 +1,27 @@
 -- The root of a tree is taken out.
-use Rattle.std.proofs.Common.{◌≡◌, ℕ, zero, suc, ◌+◌, ◌*◌, ◌<◌, ◌≤◌, max, Bool, true, false, cond, not, ◌&&◌, ◌||◌, eqb, Some, None, Option, sym, refl, ap, ◌∙◌, subst, subst₂, arith}
-use Rattle.trees.specs.Trees.{Entry, Tree, leaf, node, is_node, root_of, child, with_child, with_mark, rotated, occurrences, Distinct, height}
-use Rattle.trees.specs.RedBlack.{red, black_height, Balanced, holds}
-use Rattle.trees.specs.Removal.{Shrunk, Shrinks, sibling_fixed, short_fixed, spliced, step_up, without_first, first_entry, first_serial, without_root, removed, removed_serial}
-use Rattle.trees.proofs.Removals.{short_occurrences, step_occurrences, first_occurrences, root_occurrences, first_shrinks, removed_shrinks}
-use Rattle.memory.specs.Memory.{Node, Memory, changed, put, hits, with_link}
-use Rattle.memory.specs.Steps.{Done, done, then, with_reg, follow_of, link_of, move_of, nil_of, key_of}
-use Rattle.memory.specs.Effects.{Ends, Holds, Free}
-use Rattle.memory.proofs.Numbers.{put_same, put_other, hits_some, some_same}
-use Rattle.memory.proofs.By.{ends_then, ends_all, ends_cond, ends_last, by_link, by_move, by_nil, by_key}
-use Rattle.stored.specs.Stored.{side, colour, NodeAt, Stored, inside, NamedOnce}
-use Rattle.stored.specs.Writes.{relink_of, renumber_of, rotate_of, blank_of, Spends, Edited, Relinked, Renumbered, Cleared}
+use Rattle.std.proofs.Common.{◌≡◌, ℕ, suc, ◌+◌, ◌*◌, ◌<◌, ◌≤◌, Bool, true, false, cond, eqb, Some, None, Option, sym, refl, ap, ◌∙◌, subst, arith}
+use Rattle.trees.specs.Trees.{Entry, Tree, leaf, node, is_node, root_of, child, occurrences, height}
+use Rattle.trees.specs.RedBlack.{red, Balanced}
+use Rattle.trees.specs.Removal.{Shrunk, spliced, step_up, without_first, first_entry, first_serial, without_root}
+use Rattle.trees.proofs.Removals.{first_occurrences, first_shrinks}
+use Rattle.memory.specs.Memory.{Node, Memory, changed, put, hits}
+use Rattle.memory.specs.Steps.{done, with_reg, move_of}
+use Rattle.memory.specs.Effects.{Ends}
+use Rattle.memory.proofs.Numbers.{put_same, put_other, hits_some}
+use Rattle.memory.proofs.By.{ends_then, ends_all, ends_last, by_move, by_nil}
+use Rattle.stored.specs.Stored.{side, colour, NamedOnce}
+use Rattle.stored.specs.Writes.{relink_of, renumber_of, blank_of, Relinked, Renumbered, Cleared}
 use Rattle.stored.proofs.Blanks.{blank_ends}
-use Rattle.stored.specs.Becomes.{Cost, cost, nothing, plus, writes, Ready, Shifts, Becomes}
-use Rattle.stored.proofs.Parts.{self, side_low, no_node, no_test, hits_root, of_children, inside_children, of-with_child, root-with_child, node-with_child, child-with_child, other-with_child, root-with_mark, of-with_mark, node-with_mark, root_of_lem, is_node_lem, parent_node, stored_child, stored_root, keep, keep_else}
-use Rattle.stored.proofs.Writing.{from_linked, relink_ends, renumber_ends}
-use Rattle.stored.proofs.Changes.{ready_child, ready_root, stay, ready_scratch, from_scratch, both, in_turn, under, ready_next, ready_after, once_next, once_after, once_child, by_relink, by_mark, by_mark_child}
-use Rattle.map_steps.specs.Insert.{red_of}
-use Rattle.map_steps.specs.Remove.{short_fix_of, step_up_of, spliced_of, take_of, first_of, replace_of, swap_out_of, root_out_of, below_of, on_way, remove_of}
-use Rattle.map_steps.proofs.Reds.{red_node, by_red, by_child}
-use Rattle.map_steps.proofs.Siblings.{sibling_cost}
-use Rattle.map_steps.proofs.Shorts.{cost_eq, recost, short_cost, short_ends}
-use Rattle.map_steps.proofs.Takes.{spliced_cost, take_cost, Taken, take_ends}
-use Rattle.map_steps.proofs.StepsUp.{step_cost, as_step, Siblings, sibling_there, balanced_parts, short_after, step_ends}
-use Rattle.map_steps.proofs.Firsts.{Thrifty, thrifty_more, thrifty_all, thrifty_short, take_low, first_cost, first_thrifty, serial_any, over, ready_over, FirstTaken, first_ends}
+use Rattle.stored.specs.Becomes.{Cost, cost, nothing, plus, writes, Ready, Becomes}
+use Rattle.stored.proofs.Parts.{self, no_test, hits_root, keep}
+use Rattle.stored.proofs.Writing.{relink_ends, renumber_ends}
+use Rattle.stored.proofs.Changes.{ready_child, ready_scratch, ready_after, once_child}
+use Rattle.map_steps.specs.Remove.{short_fix_of, take_of, first_of, replace_of, swap_out_of, root_out_of}
+use Rattle.map_steps.proofs.Reds.{by_red, by_child}
+use Rattle.map_steps.proofs.Shorts.{short_cost}
+use Rattle.map_steps.proofs.Takes.{take_cost, Taken, take_ends}
+use Rattle.map_steps.proofs.StepsUp.{as_step, Siblings, sibling_there, short_after}
+use Rattle.map_steps.proofs.Firsts.{thrifty_all, first_cost, first_thrifty, serial_any, over, ready_over, FirstTaken, first_ends}
 
 -- the node n stands in the memory without links
 pub record Bare (m : Memory) (n : ℕ) : Type 0 where

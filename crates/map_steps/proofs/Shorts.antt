@@ -1,25 +1,24 @@
 -- The steps of `shortFixOf` make `shortFixed` of the tree under their register.
-use Rattle.std.proofs.Common.{◌≡◌, ℕ, suc, ◌+◌, ◌<◌, ◌≤◌, Bool, true, false, cond, not, ◌&&◌, ◌||◌, eqb, Some, None, Option, sym, refl, ap, ◌∙◌, subst, subst₂, arith}
-use Rattle.trees.specs.Trees.{Entry, Tree, leaf, node, is_node, root_of, child, with_child, with_mark, rotated, occurrences, Distinct}
+use Rattle.std.proofs.Common.{◌≡◌, ℕ, suc, ◌+◌, ◌<◌, ◌≤◌, Bool, true, false, cond, not, Some, None, sym, refl, ap, ◌∙◌, subst, arith}
+use Rattle.trees.specs.Trees.{Tree, is_node, root_of, child, with_child, with_mark, rotated, occurrences}
 use Rattle.trees.specs.RedBlack.{red}
 use Rattle.trees.specs.Removal.{Shrunk, sibling_fixed, short_fixed}
 use Rattle.trees.proofs.Removals.{sibling_occurrences}
-use Rattle.memory.specs.Memory.{Node, Memory, changed, put, hits}
-use Rattle.memory.specs.Steps.{Done, done, then, with_reg, follow_of, link_of}
-use Rattle.memory.specs.Effects.{Ends, Holds, Free}
+use Rattle.memory.specs.Memory.{Memory, changed, hits}
+use Rattle.memory.specs.Steps.{with_reg}
+use Rattle.memory.specs.Effects.{Ends}
 use Rattle.memory.proofs.Numbers.{put_same, put_other, hits_some}
-use Rattle.memory.proofs.By.{ends_then, ends_all, ends_cond, ends_last, by_link}
-use Rattle.stored.specs.Stored.{side, colour, Stored, inside, NamedOnce}
-use Rattle.stored.specs.Writes.{relink_of, renumber_of, rotate_of, Relinked}
-use Rattle.stored.specs.Becomes.{Cost, cost, nothing, plus, writes, Ready, Becomes}
-use Rattle.stored.proofs.Parts.{side_low, no_node, hits_root, of_children, inside_children, of-with_child, root-with_child, node-with_child, child-with_child, other-with_child, root-with_mark, of-with_mark, node-with_mark, child-with_mark, root_of_lem, parent_node, of_rotated, node_rotated, stored_child, stored_root, keep_else}
+use Rattle.memory.proofs.By.{ends_then, ends_all, ends_cond, by_link}
+use Rattle.stored.specs.Stored.{side, colour, NamedOnce}
+use Rattle.stored.specs.Writes.{rotate_of}
+use Rattle.stored.specs.Becomes.{Cost, cost, plus, writes, Ready, Becomes}
+use Rattle.stored.proofs.Parts.{side_low, no_node, hits_root, of_children, inside_children, of-with_child, root-with_child, node-with_child, child-with_child, root-with_mark, of-with_mark, node-with_mark, child-with_mark, root_of_lem, parent_node, of_rotated, node_rotated, stored_child, stored_root, keep_else}
 use Rattle.stored.proofs.Nodes.{link_stored}
 use Rattle.stored.proofs.Writing.{from_linked}
-use Rattle.stored.proofs.Changes.{ready_child, stay, ready_scratch, from_scratch, both, under, ready_next, once_next, once_child, by_relink, by_mark, by_mark_child}
+use Rattle.stored.proofs.Changes.{ready_scratch, from_scratch, both, ready_next, once_next, by_mark, by_mark_child}
 use Rattle.stored.proofs.Turns.{turn}
-use Rattle.map_steps.specs.Insert.{red_of}
 use Rattle.map_steps.specs.Remove.{sibling_fix_of, regraft_of, red_sibling_of, short_fix_of}
-use Rattle.map_steps.proofs.Reds.{red_node, by_red, by_child}
+use Rattle.map_steps.proofs.Reds.{by_red, by_child}
 use Rattle.map_steps.proofs.Siblings.{sibling_cost, SiblingFixed, sibling_ends}
 
 pub cost_eq : (a b : Cost) → a.links ≡ b.links → a.numbers ≡ b.numbers → a.nodes ≡ b.nodes → a ≡ b

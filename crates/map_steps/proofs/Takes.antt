@@ -1,26 +1,22 @@
 -- A node with one child at most leaves its place.
-use Rattle.std.proofs.Common.{◌≡◌, ℕ, zero, suc, ◌+◌, ◌*◌, ◌<◌, ◌≤◌, max, Bool, true, false, cond, not, ◌&&◌, ◌||◌, eqb, Some, None, Option, sym, refl, ap, ◌∙◌, subst, subst₂, arith}
-use Rattle.trees.specs.Trees.{Entry, Tree, leaf, node, is_node, root_of, child, with_child, with_mark, rotated, occurrences, Distinct, height}
-use Rattle.trees.specs.RedBlack.{red, black_height, Balanced, holds}
-use Rattle.trees.specs.Removal.{Shrunk, Shrinks, sibling_fixed, short_fixed, spliced, step_up, without_first, first_entry, first_serial, without_root, removed, removed_serial}
-use Rattle.trees.proofs.Removals.{short_occurrences, step_occurrences, first_occurrences, root_occurrences, first_shrinks, removed_shrinks}
-use Rattle.memory.specs.Memory.{Node, Memory, changed, put, hits, with_link}
-use Rattle.memory.specs.Steps.{Done, done, then, with_reg, follow_of, link_of, move_of, nil_of, key_of}
-use Rattle.memory.specs.Effects.{Ends, Holds, Free}
+use Rattle.std.proofs.Common.{◌≡◌, ℕ, ◌+◌, ◌<◌, ◌≤◌, Bool, true, false, cond, not, Some, None, sym, refl, ap, ◌∙◌, subst, arith}
+use Rattle.trees.specs.Trees.{Tree, leaf, node, root_of, child, with_mark, occurrences}
+use Rattle.trees.specs.RedBlack.{red}
+use Rattle.trees.specs.Removal.{Shrunk, spliced}
+use Rattle.memory.specs.Memory.{Node, Memory, changed, put, hits}
+use Rattle.memory.specs.Steps.{with_reg}
+use Rattle.memory.specs.Effects.{Ends, Holds}
 use Rattle.memory.proofs.Numbers.{put_same, put_other, hits_some, some_same}
-use Rattle.memory.proofs.By.{ends_then, ends_all, ends_cond, ends_last, by_link, by_move, by_nil, by_key}
-use Rattle.stored.specs.Stored.{side, colour, NodeAt, Stored, inside, NamedOnce}
-use Rattle.stored.specs.Writes.{relink_of, renumber_of, rotate_of, blank_of, Spends, Edited, Relinked, Renumbered, Cleared}
+use Rattle.memory.proofs.By.{ends_then, ends_all, ends_cond, by_move}
+use Rattle.stored.specs.Stored.{side, colour}
+use Rattle.stored.specs.Writes.{relink_of, blank_of, Relinked, Cleared}
 use Rattle.stored.proofs.Blanks.{blank_ends}
-use Rattle.stored.specs.Becomes.{Cost, cost, nothing, plus, writes, Ready, Shifts, Becomes}
-use Rattle.stored.proofs.Parts.{self, side_low, no_node, no_test, hits_root, of_children, inside_children, of-with_child, root-with_child, node-with_child, child-with_child, other-with_child, root-with_mark, of-with_mark, node-with_mark, root_of_lem, is_node_lem, parent_node, stored_child, stored_root, keep, keep_else}
-use Rattle.stored.proofs.Writing.{from_linked, relink_ends, renumber_ends}
-use Rattle.stored.proofs.Changes.{ready_child, ready_root, stay, ready_scratch, from_scratch, both, in_turn, under, ready_next, ready_after, once_next, once_after, once_child, by_relink, by_mark, by_mark_child}
-use Rattle.map_steps.specs.Insert.{red_of}
-use Rattle.map_steps.specs.Remove.{short_fix_of, step_up_of, spliced_of, take_of, first_of, replace_of, swap_out_of, root_out_of, below_of, on_way, remove_of}
+use Rattle.stored.specs.Becomes.{Cost, cost, nothing, plus, Ready, Becomes}
+use Rattle.stored.proofs.Parts.{no_node, hits_root, of_children, inside_children, is_node_lem, stored_child, stored_root, keep_else}
+use Rattle.stored.proofs.Writing.{relink_ends}
+use Rattle.stored.proofs.Changes.{stay, by_mark}
+use Rattle.map_steps.specs.Remove.{spliced_of, take_of}
 use Rattle.map_steps.proofs.Reds.{red_node, by_red, by_child}
-use Rattle.map_steps.proofs.Siblings.{sibling_cost}
-use Rattle.map_steps.proofs.Shorts.{cost_eq, recost, short_cost, short_ends}
 
 module _ {K : Type 0} where
   abbrev pub spliced_cost : Bool → Tree Bool K → Cost

@@ -8,7 +8,7 @@
 --   insert_step_of   one level of an insertion
 --   insert_of        a new node with a key's place, a value and the colour red, at the bottom of the way to its key
 --   add_of           the whole: from root 0, which ends black
-use Rattle.std.specs.Prelude.{ℕ, zero, suc, Bool, true, false, cond, not, ◌||◌, ◌==◌}
+use Rattle.std.specs.Prelude.{ℕ, zero, suc, Bool, false, cond, not, ◌||◌, ◌==◌}
 use Rattle.refusals.specs.declared.kinds.MemoryRefusal.TheVariants.{OutOfRange}
 use Rattle.memory.specs.Memory.{Memory}
 use Rattle.memory.specs.Steps.{Done, done, no, then, load_of, follow_of, key_of, number_of, nil_of, make_of}

@@ -5,7 +5,7 @@
 --   SetReplaces   the steps of `setOf` replace the value of a key that is there, and write nothing where it is not
 --   GetAnswers    the steps of `getOf` answer a key's value
 --   NextAnswers   the steps of `next_of` answer the first entry above a key
-use Rattle.std.specs.Prelude.{◌≡◌, ℕ, ◌<◌, ◌≤◌, Bool, true, false, cond, None}
+use Rattle.std.specs.Prelude.{◌≡◌, ℕ, ◌<◌, ◌≤◌, Bool, true, false, None}
 use Rattle.trees.specs.Trees.{Tree, entries}
 use Rattle.trees.specs.Lists.{KeyOrder, list_get, list_next}
 use Rattle.trees.specs.RedBlack.{holds}

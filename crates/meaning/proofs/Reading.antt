@@ -6,7 +6,7 @@ use Rattle.refusals.specs.declared.kinds.MemoryRefusal.TheVariants.{OutOfRange}
 use Rattle.fields.specs.declared.kinds.Value.{Value}
 use Rattle.fields.specs.declared.kinds.Value.TheVariants.{Number, Nil, To, From}
 use Rattle.fields.specs.Fields.{number, Shown}
-use Rattle.order.specs.Items.{known, position}
+use Rattle.order.specs.Items.{position}
 use Rattle.memory.specs.Memory.{Node, State, Memory, state_of, Sound}
 use Rattle.memory.specs.Steps.{Done, done, on_node, on_ref, at_node, is_nil, same_ref, with_reg, load_of, follow_of, move_of, key_of, number_of, nil_of, same_of}
 use Rattle.memory.specs.Steps.{check as check_of}

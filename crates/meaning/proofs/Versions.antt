@@ -4,7 +4,7 @@ use Rattle.std.proofs.lemmas.Bool.{cases_Bool, cases_eq, eq-eqb, ne_eqb, lt-ltb,
 use Rattle.refusals.specs.declared.kinds.OrderRefusal.TheVariants.{UnknownItem, Full}
 use Rattle.refusals.specs.declared.kinds.MemoryRefusal.{MemoryRefusal}
 use Rattle.refusals.specs.declared.kinds.MemoryRefusal.TheVariants.{DraftOpen, NoDraft, Order}
-use Rattle.order.specs.Items.{known, position, behind}
+use Rattle.order.specs.Items.{position, behind}
 use Rattle.memory.specs.Memory.{Memory, put, state_of, empty_state, fresh, Sound}
 use Rattle.memory.specs.Steps.{Done, done, is_nil, is_held, opened, entered, open_of, enter_of, close_of}
 use Rattle.memory.specs.Steps.{check as check_of}

@@ -1,5 +1,5 @@
 -- The calls that write, and splits: a splitting memory is left as the abstract memory is.
-use Rattle.std.proofs.Common.{◌≡◌, ℕ, suc, ◌+◌, ◌-◌, ◌<◌, Bool, true, false, cond, ltb, leb, List, [], ◌∷◌, is_some, Some, None, Option, sym, refl, ap, ◌∙◌, subst, inl, inr, arith}
+use Rattle.std.proofs.Common.{◌≡◌, ℕ, suc, ◌+◌, ◌<◌, Bool, true, false, cond, ltb, leb, List, [], ◌∷◌, is_some, Some, None, Option, sym, refl, ap, ◌∙◌, subst, inl, inr, arith}
 use Rattle.std.proofs.lemmas.Bool.{cases_lt, cases_eq, eq-eqb, ne_eqb}
 use Rattle.refusals.specs.declared.kinds.MemoryRefusal.TheVariants.{OutOfRange, OutsideDraft, ChangesSpent, NodesSpent, ThirdName}
 use Rattle.fields.specs.declared.kinds.Value.{Value}

@@ -1,7 +1,7 @@
 -- When a call is accepted, and what it then comes to.
-use Rattle.std.proofs.Common.{◌≡◌, ℕ, ◌+◌, ◌<◌, ◌≤◌, Bool, true, false, cond, eqb, ltb, leb, Some, None, Option, sym, refl, ap, ◌∙◌, arith}
-use Rattle.memory.specs.Memory.{Node, State, Memory, changed, put, hits, with_link, with_number, new_node, renamed, names_of, state_of, is_draft}
-use Rattle.memory.specs.Steps.{Done, done, no, check, at_node, with_reg, Kind, of_link, of_number, written, root_set, link_set, node_set, born, entered, opened, closed, is_nil, same_ref, is_held, then, load_of, follow_of, move_of, key_of, number_of, nil_of, same_of, make_of, save_of, link_of, set_number_of, enter_of, open_of, close_of}
+use Rattle.std.proofs.Common.{◌≡◌, ℕ, ◌<◌, ◌≤◌, true, Some, None, refl, ap}
+use Rattle.memory.specs.Memory.{Node, Memory, changed, with_number, new_node, renamed, names_of}
+use Rattle.memory.specs.Steps.{Done, done, with_reg, of_link, of_number, written, root_set, link_set, node_set, born, entered, opened, closed, is_nil, same_ref, then, load_of, follow_of, move_of, key_of, number_of, nil_of, same_of, make_of, save_of, link_of, set_number_of, enter_of, open_of, close_of}
 use Rattle.memory.specs.Effects.{Holds, Free}
 use Rattle.memory.proofs.Numbers.{lt_true, le_true}
 

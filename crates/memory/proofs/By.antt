@@ -1,9 +1,9 @@
 -- For those who write rows of calls: what each step does where it is ready, and what it leaves alone. A row is proved from its first
 -- call to its last, each `by-` lemma taking one call off the front.
-use Rattle.std.proofs.Common.{◌≡◌, ℕ, suc, ◌+◌, ◌-◌, ◌<◌, ◌≤◌, Bool, true, false, cond, ◌⊎◌, is_some, Some, None, Option, sym, refl, ap, ◌∙◌, subst, ⊎_elim, arith}
-use Rattle.memory.specs.Memory.{Node, State, Memory, changed, put, hits, with_link, with_number, new_node, renamed, names_of, sum_to, node_hits, count, Orderly}
-use Rattle.memory.specs.Steps.{Done, done, no, then, with_reg, Kind, of_link, of_number, written, root_set, link_set, node_set, born, entered, opened, closed, is_nil, same_ref, load_of, follow_of, move_of, key_of, number_of, nil_of, same_of, make_of, save_of, link_of, set_number_of, open_of, enter_of, close_of}
-use Rattle.memory.specs.Effects.{Ends, Holds, Free, Changed, Wrote, Linked, Numbered, Rooted}
+use Rattle.std.proofs.Common.{◌≡◌, ℕ, ◌+◌, ◌<◌, ◌≤◌, Bool, true, false, cond, is_some, Some, None, Option, sym, refl, ap, ◌∙◌, subst, arith}
+use Rattle.memory.specs.Memory.{Node, State, Memory, hits, with_link, with_number, new_node, renamed, names_of, node_hits, Orderly}
+use Rattle.memory.specs.Steps.{Done, done, no, then, with_reg, of_link, of_number, written, root_set, link_set, node_set, born, entered, opened, closed, is_nil, same_ref, load_of, follow_of, move_of, key_of, number_of, nil_of, same_of, make_of, save_of, link_of, set_number_of, open_of, enter_of, close_of}
+use Rattle.memory.specs.Effects.{Ends, Holds, Free, Changed, Linked, Numbered, Rooted}
 use Rattle.memory.proofs.Numbers.{put_same, put_other, hits_one, hits_none, none_some, sum_part, sum_zero, names_at_most}
 use Rattle.memory.proofs.Accepted.{load_done, follow_done, move_done, key_done, number_done, nil_done, same_done, make_done, save_done, link_done, set_number_done, open_done, enter_done, close_done}
 use Rattle.memory.proofs.Kept.{low}

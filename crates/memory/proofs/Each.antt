@@ -1,13 +1,13 @@
 -- A property of the memory that a call leaves, from the few cases that a call can come to.
-use Rattle.std.proofs.Common.{◌≡◌, ℕ, suc, ◌+◌, ◌<◌, ◌≤◌, Bool, true, false, cond, eqb, ltb, leb, is_some, Some, None, Option, sym, refl, ap, ◌∙◌, arith}
+use Rattle.std.proofs.Common.{◌≡◌, ℕ, ◌<◌, ◌≤◌, Bool, true, false, ltb, leb, is_some, Some, None, Option, refl, arith}
 use Rattle.refusals.specs.declared.kinds.MemoryRefusal.{MemoryRefusal}
 use Rattle.refusals.specs.declared.kinds.OrderRefusal.TheVariants.{UnknownItem, Full}
 use Rattle.refusals.specs.declared.kinds.MemoryRefusal.TheVariants.{OutOfRange, NilRegister, OutsideDraft, ChangesSpent, NodesSpent, ThirdName, DraftOpen, NoDraft, Order}
-use Rattle.memory.specs.Memory.{Node, State, Memory, changed, put, hits, with_link, with_number, new_node, renamed, names_of, state_of, is_draft, Orderly, Sound}
-use Rattle.memory.specs.Steps.{Done, done, no, check, on_node, on_ref, at_node, writing, with_reg, Kind, of_link, of_number, written, root_set, link_set, node_set, born, entered, opened, closed, is_nil, same_ref, is_held, then, load_of, follow_of, move_of, key_of, number_of, nil_of, same_of, make_of, save_of, link_of, set_number_of, enter_of, open_of, close_of}
+use Rattle.memory.specs.Memory.{Node, State, Memory, changed, with_number, new_node, renamed, names_of, Orderly, Sound}
+use Rattle.memory.specs.Steps.{Done, no, check, on_node, on_ref, at_node, writing, with_reg, of_link, of_number, written, root_set, link_set, node_set, born, entered, opened, closed, is_nil, is_held, load_of, follow_of, move_of, key_of, number_of, nil_of, same_of, make_of, save_of, link_of, set_number_of, enter_of, open_of, close_of}
 use Rattle.memory.specs.Calls.{Call, Load, Follow, Move, Key, Number, Nil, Same, Make, Save, Link, SetNumber, Open, Enter, Close, left, after, is_lower}
 use Rattle.memory.specs.Effects.{Free}
-use Rattle.memory.proofs.Numbers.{lt_from, le_from, eq_true, eq_false, none_some}
+use Rattle.memory.proofs.Numbers.{lt_from, le_from, eq_true}
 
 -- nil, or a node of the state
 abbrev pub Present : State → Option ℕ → Type 0

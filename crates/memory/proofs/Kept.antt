@@ -1,13 +1,12 @@
 -- Every call keeps a memory sound.
-use Rattle.std.proofs.Common.{◌≡◌, ℕ, zero, suc, ◌+◌, ◌-◌, ◌<◌, ◌≤◌, Bool, true, false, cond, eqb, ltb, leb, ◌⊎◌, List, [], ◌∷◌, is_some, Some, None, Option, sym, refl, ap, ◌∙◌, subst, inl, inr, ⊎_elim, arith}
-use Rattle.std.proofs.lemmas.Bool.Decides.{nat_tests}
-use Rattle.std.proofs.lemmas.Bool.{cases_lt, cases_eq, cases_Bool}
-use Rattle.memory.specs.Memory.{Node, State, Rest, Memory, changed, put, hits, with_link, with_number, new_node, renamed, names_of, state_of, is_draft, sum_to, node_hits, count, Orderly, Sound, empty_state, fresh, fresh_single}
+use Rattle.std.proofs.Common.{◌≡◌, ℕ, suc, ◌+◌, ◌<◌, ◌≤◌, Bool, true, false, cond, eqb, ltb, ◌⊎◌, List, [], ◌∷◌, is_some, Some, None, Option, sym, refl, ap, ◌∙◌, subst, inl, inr, ⊎_elim, arith}
+use Rattle.std.proofs.lemmas.Bool.{cases_lt, cases_eq}
+use Rattle.memory.specs.Memory.{Node, State, Memory, changed, put, hits, with_link, with_number, new_node, renamed, names_of, state_of, is_draft, sum_to, node_hits, Orderly, Sound, empty_state, fresh, fresh_single}
 use Rattle.order.specs.Items.{member}
 use Rattle.order.proofs.Members.{member_here}
-use Rattle.memory.specs.Steps.{with_reg, Kind, of_link, of_number, linked_by, numbered_by, written, root_set, link_set, node_set, born, entered, opened, closed}
+use Rattle.memory.specs.Steps.{with_reg, Kind, of_link, of_number, written, root_set, link_set, node_set, born, entered, opened, closed}
 use Rattle.memory.specs.Calls.{Call, after, run_of}
-use Rattle.memory.proofs.Numbers.{put_same, put_other, eq_true, eq_false, eq_from, lt_true, lt_false, some_same, none_some, hits_none, sum_same, sum_one, sum_zero, renamed_few}
+use Rattle.memory.proofs.Numbers.{put_same, put_other, eq_true, eq_false, eq_from, lt_true, lt_false, some_same, none_some, sum_same, sum_one, renamed_few}
 use Rattle.memory.specs.Effects.{Free}
 use Rattle.memory.proofs.Each.{Present, Each, here, each}
 

@@ -1,17 +1,16 @@
 -- Proofs of the laws.
-use Rattle.std.proofs.Common.{◌≡◌, ℕ, zero, suc, ◌+◌, ◌-◌, ◌<◌, ◌≤◌, Bool, true, false, cond, eqb, ltb, leb, ◌⊎◌, List, [], ◌∷◌, is_some, Some, None, Option, sym, refl, ap, ◌∙◌, subst, inl, inr, ⊎_elim, arith}
-use Rattle.std.proofs.lemmas.Bool.{cases_lt, cases_eq}
+use Rattle.std.proofs.Common.{◌≡◌, ℕ, ◌<◌, ◌≤◌, Bool, true, false, cond, eqb, ltb, List, [], ◌∷◌, Some, Option, sym, refl, ap, ◌∙◌, subst, ⊎_elim, arith}
+use Rattle.std.proofs.lemmas.Bool.{cases_eq}
 use Rattle.refusals.specs.declared.kinds.OrderRefusal.TheVariants.{UnknownItem, Full}
 use Rattle.refusals.specs.declared.kinds.MemoryRefusal.{MemoryRefusal}
 use Rattle.refusals.specs.declared.kinds.MemoryRefusal.TheVariants.{OutOfRange, OutsideDraft, NodesSpent, DraftOpen, Order}
-use Rattle.memory.specs.Memory.{Node, State, Rest, Memory, put, with_link, with_number, new_node, count, state_of, Sound, fresh, fresh_single}
-use Rattle.memory.specs.Steps.{Done, done, no, check, with_reg, Kind, of_link, of_number, written, root_set, link_set, node_set, born, entered, opened, closed, is_nil, enter_of, open_of, make_of}
-use Rattle.memory.specs.Calls.{Call, Make, left, after, run_of, is_lower}
-use Rattle.memory.specs.Laws.{StaysSound, RunsSound, TrulyNamed, TrueNames, KeepsRest, WorksAlone, Sealed, SealedStays, StaysSealed, SealedRuns, Copied, OpenCopies, Moved, EnterKeeps, ThereAndBack, NamedAnew, MakesNew, MadeGrows, SerialOnce, HasKey, KeepsKeys, NodesOfPath}
-use Rattle.memory.specs.Effects.{Free}
-use Rattle.memory.proofs.Numbers.{put_same, put_other, eq_true, eq_false, lt_from, some_same, none_some}
-use Rattle.memory.proofs.Each.{Present, Lower, Each, here, each, each_lower}
-use Rattle.memory.proofs.Kept.{at_state, at_put, there, entered_state, opened_state, opened_new, writes_draft, stays_sound, fresh_sound, single_sound, runs_sound}
+use Rattle.memory.specs.Memory.{Node, State, Rest, Memory, put, with_link, with_number, new_node, state_of, Sound, fresh, fresh_single}
+use Rattle.memory.specs.Steps.{Done, done, check, root_set, link_set, node_set, born, entered, opened, is_nil, enter_of, open_of, make_of}
+use Rattle.memory.specs.Calls.{Call, Make, left, after, run_of}
+use Rattle.memory.specs.Laws.{StaysSound, RunsSound, TrueNames, KeepsRest, WorksAlone, Sealed, SealedStays, StaysSealed, SealedRuns, Copied, OpenCopies, Moved, EnterKeeps, ThereAndBack, NamedAnew, MakesNew, MadeGrows, SerialOnce, HasKey, KeepsKeys, NodesOfPath}
+use Rattle.memory.proofs.Numbers.{put_same, put_other, eq_true, eq_false, some_same, none_some}
+use Rattle.memory.proofs.Each.{here, each, each_lower}
+use Rattle.memory.proofs.Kept.{at_state, entered_state, opened_state, opened_new, writes_draft, stays_sound, fresh_sound, single_sound, runs_sound}
 
 pub stays : StaysSound
 stays = stays_sound

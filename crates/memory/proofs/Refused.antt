@@ -1,8 +1,8 @@
 -- When a write is refused for want of changes, or for a third name.
-use Rattle.std.proofs.Common.{◌≡◌, ℕ, ◌<◌, ◌≤◌, Bool, true, false, cond, ltb, leb, refl}
+use Rattle.std.proofs.Common.{◌≡◌, ℕ, ◌<◌, ◌≤◌, true, false, leb, refl}
 use Rattle.refusals.specs.declared.kinds.MemoryRefusal.TheVariants.{ChangesSpent, ThirdName}
 use Rattle.memory.specs.Memory.{Node, Memory, changed, renamed, names_of}
-use Rattle.memory.specs.Steps.{Done, no, save_of, link_of, set_number_of}
+use Rattle.memory.specs.Steps.{no, save_of, link_of, set_number_of}
 use Rattle.memory.specs.Effects.{Holds, Free}
 use Rattle.memory.proofs.Numbers.{lt_true, lt_false}
 

@@ -1,8 +1,8 @@
 -- A row of steps keeps a memory sound: each step does, and so do rows made of such steps.
-use Rattle.std.proofs.Common.{◌≡◌, ℕ, Bool, true, false, cond, refl}
+use Rattle.std.proofs.Common.{◌≡◌, ℕ, Bool, true, false, cond}
 use Rattle.memory.specs.Memory.{Memory, Sound}
 use Rattle.memory.specs.Steps.{Done, done, no, then, load_of, follow_of, move_of, key_of, number_of, nil_of, same_of, make_of, save_of, link_of, set_number_of, open_of, enter_of, close_of}
-use Rattle.memory.specs.Calls.{Call, Load, Follow, Move, Key, Number, Nil, Same, Make, Save, Link, SetNumber, Open, Enter, Close, left, after}
+use Rattle.memory.specs.Calls.{Load, Follow, Move, Key, Number, Nil, Same, Make, Save, Link, SetNumber, Open, Enter, Close, left, after}
 use Rattle.memory.proofs.Kept.{stays_sound}
 
 -- where the row is accepted, the memory after it is sound

@@ -10,10 +10,10 @@
 --   MakesNew, MadeGrows, SerialOnce        a new node's serial number is in no version, and is given to no second node
 --   KeepsKeys                              a node keeps its key place
 --   NodesOfPath                            the nodes of a version are those born on its path
-use Rattle.std.specs.Prelude.{◌≡◌, ℕ, suc, ◌+◌, ◌<◌, ◌≤◌, Bool, true, false, cond, List, [], ◌∷◌, is_some, Some, None, Option, ◌≢◌, nat_lt}
+use Rattle.std.specs.Prelude.{◌≡◌, ℕ, suc, ◌<◌, ◌≤◌, true, false, cond, List, ◌∷◌, is_some, Some, None, ◌≢◌, nat_lt}
 use Rattle.order.specs.Items.{member}
 use Rattle.memory.specs.Memory.{Node, State, Memory, AllNil, count, state_of, Sound, fresh, fresh_single}
-use Rattle.memory.specs.Steps.{Done, done, enter_of, open_of, make_of}
+use Rattle.memory.specs.Steps.{done, enter_of, open_of, make_of}
 use Rattle.memory.specs.Calls.{Call, after, run_of, is_lower}
 
 -- every call keeps a memory sound, accepted or refused

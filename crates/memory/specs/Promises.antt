@@ -8,7 +8,7 @@
 --   Carries   a call that leaves all but registers and working version alone
 --   Comes     the result of a row of calls and, where it is accepted, the memory after it, are what a chain of steps comes to
 --   Runs      a row of calls runs a chain of steps, from whatever its memory means
-use Rattle.std.specs.Prelude.{◌≡◌, Bool, true, false, Ok, Err, Result}
+use Rattle.std.specs.Prelude.{◌≡◌, Bool, false, Ok, Err, Result}
 use Rattle.refusals.specs.declared.kinds.MemoryRefusal.{MemoryRefusal}
 use Rattle.refusals.specs.declared.kinds.MemoryRefusal.TheVariants.{ForeignOrder}
 use Rattle.memory.specs.Memory.{Memory}

@@ -18,11 +18,11 @@
 --   with_reg, written, born, entered, opened, closed   the memory after a call
 --   load_of, follow_of, move_of, key_of, number_of, nil_of, same_of, make_of, save_of, link_of, set_number_of, open_of, enter_of, close_of
 --                                                      the steps; value and mark are numbers 0 and 1
-use Rattle.std.specs.Prelude.{◌≡◌, ℕ, suc, ◌+◌, Bool, true, false, cond, List, [], ◌∷◌, Some, None, Option, ◌==◌, nat_le, nat_lt}
+use Rattle.std.specs.Prelude.{ℕ, suc, ◌+◌, Bool, true, false, ◌∷◌, Some, None, Option, ◌==◌, nat_le, nat_lt}
 use Rattle.refusals.specs.declared.kinds.OrderRefusal.TheVariants.{UnknownItem, Full}
 use Rattle.refusals.specs.declared.kinds.MemoryRefusal.{MemoryRefusal}
 use Rattle.refusals.specs.declared.kinds.MemoryRefusal.TheVariants.{OutOfRange, NilRegister, OutsideDraft, ChangesSpent, NodesSpent, ThirdName, DraftOpen, NoDraft, Order}
-use Rattle.memory.specs.Memory.{Node, State, Rest, Memory, changed, put, with_link, with_number, new_node, renamed, names_of, state_of, is_draft}
+use Rattle.memory.specs.Memory.{Node, State, Memory, changed, put, with_link, with_number, new_node, renamed, names_of, state_of, is_draft}
 
 -- what a call comes to: an answer and the next memory, or a refusal
 pub data Done (A : Type 0) : Type 0 where

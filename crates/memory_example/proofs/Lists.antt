@@ -1,12 +1,12 @@
 -- What the rows of the linked list come to.
-use Rattle.std.proofs.Common.{◌≡◌, ℕ, zero, suc, ◌+◌, ◌-◌, ◌<◌, ◌≤◌, Bool, true, false, List, [], ◌∷◌, length, get_or, Some, None, Option, sym, refl, ap, ◌∙◌, subst, arith}
-use Rattle.memory.specs.Memory.{Node, State, Memory, hits, put, with_link, new_node}
-use Rattle.memory.specs.Steps.{Done, done, then, with_reg, born, follow_of}
-use Rattle.memory.specs.Effects.{Ends, Holds, Free, Linked, Rooted}
+use Rattle.std.proofs.Common.{◌≡◌, ℕ, zero, suc, ◌-◌, ◌<◌, List, [], ◌∷◌, length, get_or, Some, Option, sym, refl, ap, ◌∙◌, arith}
+use Rattle.memory.specs.Memory.{Node, Memory, hits, with_link, new_node}
+use Rattle.memory.specs.Steps.{done, then, with_reg, born, follow_of}
+use Rattle.memory.specs.Effects.{Ends, Holds}
 use Rattle.memory.proofs.Numbers.{put_same, put_other, some_same, none_some, hits_one}
 use Rattle.memory.proofs.Each.{here}
 use Rattle.memory.proofs.By.{ends_then, ends_last, unborn_names, root_names, by_load, by_make, by_link, by_save, by_follow, by_number}
-use Rattle.memory_example.specs.Chains.{Listed, push_of, advance_of, value_at_of, Ready, PushLists, WalkAnswers}
+use Rattle.memory_example.specs.Chains.{Listed, advance_of, PushLists, WalkAnswers}
 
 -- a list stays where its nodes do
 kept : (old new : ℕ → Option Node) (x : Option ℕ) (vs : List ℕ) → ((k : ℕ) (n : Node) → old k ≡ Some n → new k ≡ Some n) → Listed old x vs → Listed new x vs

@@ -8,7 +8,7 @@
 --   PushLists     a push puts its value in front
 --   WalkAnswers   the value at a place is the one that stands there
 use Rattle.std.specs.Prelude.{◌≡◌, ℕ, zero, suc, ◌+◌, ◌<◌, ◌≤◌, true, List, [], ◌∷◌, length, Some, None, Option, slice_index}
-use Rattle.memory.specs.Memory.{Node, State, Memory, changed, Sound}
+use Rattle.memory.specs.Memory.{Node, Memory, changed, Sound}
 use Rattle.memory.specs.Steps.{Done, done, then, load_of, follow_of, number_of, make_of, save_of, link_of}
 use Rattle.memory.specs.Effects.{Ends}
 

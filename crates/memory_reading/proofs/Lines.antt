@@ -1,10 +1,9 @@
 -- A line from its word and its numbers.
-use Rattle.std.proofs.Common.{◌≡◌, ℕ, List, [], ◌∷◌, Some, None, Option, sym, ap, ◌∙◌, ap₂}
+use Rattle.std.proofs.Common.{◌≡◌, ℕ, List, [], ◌∷◌, Some, Option, sym, ap, ◌∙◌, ap₂}
 use Rattle.text.specs.Numbers.{numbers_of}
 use Rattle.text.specs.Left.{first_of, behind_first, if_there}
 use Rattle.text.proofs.Inverse.{some_same, none_some}
 use Rattle.memory_lines.specs.declared.line.Word.{Word}
-use Rattle.memory_lines.specs.declared.line.MemoryLine.{MemoryLine}
 use Rattle.memory_reading.specs.Words.{word_of, line_of, text_line}
 
 -- what a word and what the numbers behind it write make the line, or nothing

@@ -6,7 +6,7 @@
 --   wide_two                                                      the numbers of `set_value`: the second has 64 bits
 --   move_with, question_with, write_with, version_with, line_of   the call of a word and its numbers; nothing where they do not fit
 --   text_line                                                     the call that the words of a line write, or nothing
-use Rattle.std.specs.Prelude.{ℕ, ◌^◌, Bool, true, false, cond, ◌&&◌, List, [], ◌∷◌, Some, None, codes, Option, nat_lt}
+use Rattle.std.specs.Prelude.{ℕ, Bool, cond, ◌&&◌, List, [], ◌∷◌, Some, None, codes, Option, nat_lt}
 use Rattle.std.specs.Str.{bytes_eq}
 use Rattle.text.specs.Numbers.{numbers_of}
 use Rattle.text.specs.Left.{behind_first, read_first, if_there}
@@ -26,7 +26,6 @@ use Rattle.memory_lines.specs.declared.line.Question.{Question}
 use Rattle.memory_lines.specs.declared.line.Question.TheVariants.{Key, Value, Mark, Nil, Same}
 use Rattle.memory_lines.specs.declared.line.Write.{Write}
 use Rattle.memory_lines.specs.declared.line.Write.TheVariants.{Make, Save, Link, SetValue, SetMark}
-use Rattle.memory_lines.specs.declared.line.PointerLine.{PointerLine}
 use Rattle.memory_lines.specs.declared.line.PointerLine.TheVariants.{Moves, Asks, Writes}
 use Rattle.memory_lines.specs.declared.line.VersionLine.{VersionLine}
 use Rattle.memory_lines.specs.declared.line.VersionLine.TheVariants.{Open, Enter, Close}

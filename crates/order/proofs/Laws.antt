@@ -1,7 +1,7 @@
 -- The laws of the list that a version order means.
-use Rattle.std.proofs.Common.{◌≡◌, ℕ, ◌<◌, ◌≤◌, Bool, true, false, cond, ◌⊎◌, List, [], ◌∷◌, sym, refl, ap, ◌∙◌, inl, inr, arith}
+use Rattle.std.proofs.Common.{◌≡◌, ℕ, true, false, ◌⊎◌, [], ◌∷◌, sym, refl, ◌∙◌, inl, inr, arith}
 use Rattle.std.proofs.lemmas.Bool.{cases_eq, cases_lt, cases_Bool, eq-eqb, ne_eqb, lt-ltb, ltb-true}
-use Rattle.order.specs.Items.{member, Distinct, earlier, behind, position}
+use Rattle.order.specs.Items.{member, earlier, position}
 use Rattle.order.specs.Laws.{BeforeIsAnOrder, NewItemPartsNothing}
 use Rattle.order.proofs.Members.{member_there, member_others, both_known}
 use Rattle.order.proofs.Positions.{earlier_position, position_apart}

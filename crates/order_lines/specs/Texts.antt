@@ -5,7 +5,7 @@
 --   asked         the line that begins with a word
 --   line_of       the line that words write, or nothing
 --   answer_text   an answer
-use Rattle.std.specs.Prelude.{ℕ, Bool, true, false, cond, ◌&&◌, List, [], ◌∷◌, ◌++◌, Some, None, codes, decimal, Option}
+use Rattle.std.specs.Prelude.{ℕ, true, false, cond, ◌&&◌, List, [], ◌∷◌, ◌++◌, Some, None, codes, decimal, Option}
 use Rattle.std.specs.Str.{bytes_eq}
 use Rattle.refusals.specs.Numbers.{order_number}
 use Rattle.text.specs.Numbers.{number_of}

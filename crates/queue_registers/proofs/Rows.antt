@@ -6,7 +6,7 @@ use Rattle.memory.specs.Steps.{done}
 use Rattle.stored.specs.Writes.{relink_of, renumber_of, resave_of, blank_of}
 use Rattle.queue_steps.specs.Merge.{rank_of, next_rank_of, ranked_of, hang_of, sink_of, swap_of, merge_of}
 use Rattle.queue_steps.specs.Queues.{push_of, part_of, pop_of, top_of, release_of}
-use Rattle.queue_registers.specs.Registers.{Keeps, KeepsNil, NilStays}
+use Rattle.queue_registers.specs.Registers.{Keeps, NilStays}
 use Rattle.queue_registers.proofs.Steps.{keeps_then, keeps_cond, keeps_check, keeps_load, keeps_follow, keeps_move, keeps_key, keeps_number, keeps_nil, keeps_same, keeps_make, keeps_save, keeps_link, keeps_set}
 
 module _ {x : Option ℕ} where

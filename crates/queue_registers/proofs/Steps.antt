@@ -1,9 +1,9 @@
 -- Single steps that leave register 35 as it was.
-use Rattle.std.proofs.Common.{◌≡◌, ℕ, Bool, true, false, cond, ltb, leb, Some, None, Option, refl, ◌∙◌}
+use Rattle.std.proofs.Common.{◌≡◌, ℕ, Bool, true, false, cond, ltb, leb, Some, None, Option, ◌∙◌}
 use Rattle.refusals.specs.declared.kinds.MemoryRefusal.{MemoryRefusal}
 use Rattle.refusals.specs.declared.kinds.MemoryRefusal.TheVariants.{OutOfRange, OutsideDraft, ChangesSpent, NodesSpent, ThirdName}
 use Rattle.memory.specs.Memory.{Node, State, Memory, changed, names_of}
-use Rattle.memory.specs.Steps.{Done, done, no, then, check, is_reg, is_root, is_side, on_node, on_ref, at_node, writing, naming, root_set, link_set, load_of, follow_of, move_of, key_of, number_of, nil_of, same_of, make_of, save_of, link_of, set_number_of}
+use Rattle.memory.specs.Steps.{Done, done, no, then, check, is_reg, is_root, is_side, on_node, on_ref, writing, naming, root_set, link_set, load_of, follow_of, move_of, key_of, number_of, nil_of, same_of, make_of, save_of, link_of, set_number_of}
 use Rattle.memory.proofs.Numbers.{put_other}
 use Rattle.queue_registers.specs.Registers.{Keeps}
 

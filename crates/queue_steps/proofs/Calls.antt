@@ -1,19 +1,17 @@
 -- The calls of the queues on the whole working state.
-use Rattle.std.proofs.Common.{◌≡◌, ℕ, ◌<◌, ◌≤◌, Bool, true, Some, None, Option, refl, ap, ◌∙◌, arith}
-use Rattle.trees.specs.Trees.{Entry, Tree, leaf, node, root_of}
-use Rattle.trees.specs.Theorems.{Heap, pushed, popped}
+use Rattle.std.proofs.Common.{◌≡◌, ℕ, Bool, Some, None, refl, ap, arith}
+use Rattle.trees.specs.Trees.{Tree, leaf, node}
 use Rattle.trees.proofs.Heaps.{push_adds}
 use Rattle.trees.proofs.Heaps.{pop_takes as taken}
 use Rattle.memory.specs.Memory.{Memory}
-use Rattle.memory.specs.Steps.{Done, done, then, with_reg, load_of, key_of, nil_of}
+use Rattle.memory.specs.Steps.{with_reg}
 use Rattle.memory.specs.Effects.{Ends}
 use Rattle.memory.proofs.Numbers.{put_same}
 use Rattle.memory.proofs.By.{ends_all, by_load, by_nil, by_key}
-use Rattle.stored.specs.Stored.{colour, as_rank}
-use Rattle.stored.specs.Whole.{Trees, Whole, Stands, Room, Untouched}
+use Rattle.stored.specs.Whole.{Stands, Untouched}
 use Rattle.stored.proofs.Wholes.{swapped, turned, untouched, untouched_after}
 use Rattle.queue_steps.specs.Queues.{push_of, pop_of, top_of}
-use Rattle.queue_steps.specs.Theorems.{QueuesAre, Joins, first_due, PopIs, PushJoins, PopTakes, TopAnswers_lem}
+use Rattle.queue_steps.specs.Theorems.{PushJoins, PopTakes, TopAnswersHold}
 use Rattle.queue_steps.proofs.Pushes.{push_ends}
 use Rattle.queue_steps.proofs.Pops.{pop_ends}
 
@@ -37,7 +35,7 @@ pop_takes before sooner o m map (node n c e l r) held S room nil =
     ends_all (pop_of sooner 1 m) _ _ (pop_ends sooner m n c e l r map held (omega arith) (λ q. omega arith) (λ q. omega arith) (swapped S.whole) S.due_heap.leftist room nil)
     (λ k m' F. (F.0, record { stands = record { whole = swapped F.1; map_tree = S.map_tree; due_heap = (taken ℕ sooner o n c e l r S.due_heap).heap; held_heap = S.held_heap }; spent = F.2 }))
 
-pub top_answers : TopAnswers_lem
+pub top_answers : TopAnswersHold
 unfolding top_of
 top_answers before sooner m map leaf held S =
     by_load _ _ 1 0 m None (omega arith) (omega arith) S.whole.second

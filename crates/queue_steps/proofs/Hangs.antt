@@ -1,17 +1,16 @@
 -- A node gets a heap beside its left child.
-use Rattle.std.proofs.Common.{◌≡◌, ℕ, suc, ◌+◌, ◌<◌, ◌≤◌, Bool, true, false, cond, not, eqb, ltb, leb, Some, None, Option, sym, refl, ap, ◌∙◌, subst, arith}
-use Rattle.trees.specs.Trees.{Entry, Tree, leaf, node, is_node, root_of, child, occurrences}
+use Rattle.std.proofs.Common.{◌≡◌, ℕ, suc, ◌+◌, ◌<◌, ◌≤◌, true, false, cond, eqb, leb, Some, None, sym, ap, ◌∙◌, subst, arith}
+use Rattle.trees.specs.Trees.{Entry, Tree, leaf, node, root_of, occurrences}
 use Rattle.trees.specs.Leftist.{rank, joined}
-use Rattle.memory.specs.Memory.{Node, Memory, changed, put, hits}
-use Rattle.memory.specs.Steps.{Done, done, no, then, check, with_reg, is_nil, follow_of, number_of, nil_of}
+use Rattle.memory.specs.Memory.{Node, Memory, changed, hits}
+use Rattle.memory.specs.Steps.{Done, done, no, then, with_reg, nil_of}
 use Rattle.memory.specs.Effects.{Ends, Holds, Free}
 use Rattle.memory.proofs.Numbers.{put_same, put_other, hits_some, lt_true}
-use Rattle.memory.proofs.By.{ends_then, ends_all, ends_cond, by_done, by_nil, by_number, by_follow}
+use Rattle.memory.proofs.By.{ends_then, ends_all, ends_cond, by_nil, by_number, by_follow}
 use Rattle.stored.specs.Stored.{side, as_rank, NodeAt, Stored, inside}
-use Rattle.stored.specs.Writes.{relink_of, renumber_of, Spends, Edited, Relinked, Renumbered}
-use Rattle.stored.specs.Becomes.{Cost, cost, Shifts}
+use Rattle.stored.specs.Writes.{relink_of, Relinked, Renumbered}
+use Rattle.stored.specs.Becomes.{cost, Shifts}
 use Rattle.stored.proofs.Parts.{self, hits_root, keep_else}
-use Rattle.stored.proofs.Nodes.{link_node, mark_node}
 use Rattle.stored.proofs.Writing.{relink_ends, renumber_ends}
 use Rattle.queue_steps.specs.Merge.{rank_of, next_rank_of, ranked_of, hang_of}
 

@@ -1,22 +1,22 @@
 -- Two heaps under registers become the merged heap.
-use Rattle.std.proofs.Common.{◌≡◌, ℕ, zero, suc, ◌+◌, ◌*◌, ◌<◌, ◌≤◌, min, Bool, true, false, cond, not, eqb, leb, Some, None, Option, sym, refl, ap, ◌∙◌, subst, arith}
-use Rattle.trees.specs.Trees.{Entry, Tree, leaf, node, root_of, occurrences, sum_over, size}
+use Rattle.std.proofs.Common.{◌≡◌, ℕ, zero, suc, ◌+◌, ◌*◌, ◌<◌, ◌≤◌, Bool, true, false, cond, eqb, Some, None, sym, refl, ap, ◌∙◌, arith}
+use Rattle.trees.specs.Trees.{Entry, Tree, leaf, node, root_of, occurrences, size}
 use Rattle.trees.specs.Leftist.{rank, Leftist, joined, merged}
 use Rattle.trees.proofs.Heaps.{merged_sum, merged_leftist}
 use Rattle.trees.proofs.Heights.{low_rank}
-use Rattle.memory.specs.Memory.{Node, Memory, changed, put, hits}
-use Rattle.memory.specs.Steps.{Done, done, then, with_reg, follow_of, move_of, key_of, nil_of}
-use Rattle.memory.specs.Effects.{Ends, Holds}
+use Rattle.memory.specs.Memory.{Memory, changed}
+use Rattle.memory.specs.Steps.{Done, with_reg, move_of}
+use Rattle.memory.specs.Effects.{Ends}
 use Rattle.memory.proofs.Numbers.{put_same, put_other, hits_some}
 use Rattle.memory.proofs.By.{ends_then, ends_all, ends_cond, ends_last, by_nil, by_key, by_move, by_follow}
-use Rattle.stored.specs.Stored.{side, as_rank, NodeAt, Stored, inside}
-use Rattle.stored.specs.Becomes.{Cost, cost, Shifts}
+use Rattle.stored.specs.Stored.{as_rank, inside}
+use Rattle.stored.specs.Becomes.{cost, Shifts}
 use Rattle.stored.specs.Whole.{Untouched}
 use Rattle.stored.proofs.Parts.{self, hits_root, keep}
 use Rattle.stored.proofs.Nodes.{move_node}
 use Rattle.queue_steps.specs.Merge.{hang_of, sink_of, swap_of, merge_of}
 use Rattle.queue_steps.specs.Theorems.{Pair, MergeSteps}
-use Rattle.queue_steps.proofs.Hangs.{foot, names₀, hang_ends}
+use Rattle.queue_steps.proofs.Hangs.{hang_ends}
 
 -- what a merge of a and b leaves: the heap u, by at most so many levels
 abbrev Merges : Memory → Memory → ℕ → Tree ℕ ℕ → Tree ℕ ℕ → Tree ℕ ℕ → ℕ → Type 0

@@ -1,25 +1,25 @@
 -- The first job of a root's heap goes.
-use Rattle.std.proofs.Common.{◌≡◌, ℕ, suc, ◌+◌, ◌*◌, ◌<◌, ◌≤◌, min, Bool, true, false, cond, eqb, Some, None, Option, sym, refl, ap, ◌∙◌, subst, inl, inr, arith}
-use Rattle.std.proofs.lemmas.Bool.Decides.{nat_tests, eqb_tells}
-use Rattle.trees.specs.Trees.{Entry, entry, Tree, leaf, node, root_of, occurrences, sum_over, size}
-use Rattle.trees.specs.Leftist.{rank, Leftist, merged}
-use Rattle.trees.specs.Theorems.{Heap, popped}
+use Rattle.std.proofs.Common.{◌≡◌, ℕ, ◌+◌, ◌*◌, ◌<◌, ◌≤◌, Bool, true, cond, eqb, Some, None, sym, ap, ◌∙◌, subst, inl, inr, arith}
+use Rattle.std.proofs.lemmas.Bool.Decides.{eqb_tells}
+use Rattle.trees.specs.Trees.{Entry, Tree, node, root_of, occurrences, size}
+use Rattle.trees.specs.Leftist.{Leftist, merged}
+use Rattle.trees.specs.Theorems.{popped}
 use Rattle.trees.proofs.Heaps.{merged_sum, merge_enough}
 use Rattle.trees.proofs.Heights.{low_rank}
-use Rattle.memory.specs.Memory.{Node, Memory, changed, put, new_node, hits}
-use Rattle.memory.specs.Steps.{Done, done, then, with_reg, born, load_of, move_of, follow_of, key_of, nil_of}
-use Rattle.memory.specs.Effects.{Ends, Holds, Free}
-use Rattle.memory.proofs.Numbers.{put_same, put_other, hits_some, some_same}
-use Rattle.memory.proofs.By.{ends_then, ends_all, ends_cond, by_load, by_move, by_follow, by_nil, by_key}
-use Rattle.stored.specs.Stored.{side, as_rank, NodeAt, Stored, inside}
-use Rattle.stored.specs.Writes.{resave_of, blank_of, Edited, Spends, Cleared}
+use Rattle.memory.specs.Memory.{Node, Memory, changed, put, hits}
+use Rattle.memory.specs.Steps.{with_reg}
+use Rattle.memory.specs.Effects.{Ends}
+use Rattle.memory.proofs.Numbers.{put_same, put_other, some_same}
+use Rattle.memory.proofs.By.{ends_then, ends_all, by_load, by_move, by_follow, by_nil, by_key}
+use Rattle.stored.specs.Stored.{side, as_rank, Stored, inside}
+use Rattle.stored.specs.Writes.{resave_of, blank_of, Edited, Spends}
 use Rattle.stored.proofs.Blanks.{blank_ends}
-use Rattle.stored.specs.Becomes.{Cost, cost, Shifts}
-use Rattle.stored.specs.Whole.{Trees, Room, Spent, Untouched}
+use Rattle.stored.specs.Becomes.{cost, Shifts}
+use Rattle.stored.specs.Whole.{Trees, Room, Spent}
 use Rattle.stored.proofs.Parts.{self, hits_root, keep_else}
-use Rattle.stored.proofs.Wholes.{none_of, untouched, untouched_after, Prepared, save_ends, size_made}
+use Rattle.stored.proofs.Wholes.{save_ends, size_made}
 use Rattle.queue_steps.specs.Merge.{merge_of}
-use Rattle.queue_steps.specs.Queues.{part_of, pop_of, top_of}
+use Rattle.queue_steps.specs.Queues.{part_of, pop_of}
 use Rattle.queue_steps.specs.Theorems.{Pair}
 use Rattle.queue_steps.proofs.Merges.{merge_ends}
 

@@ -1,22 +1,22 @@
 -- A job joins the heap of a root.
-use Rattle.std.proofs.Common.{◌≡◌, ℕ, suc, ◌+◌, ◌*◌, ◌<◌, ◌≤◌, min, Bool, true, false, cond, eqb, Some, None, Option, sym, refl, ap, ◌∙◌, subst, arith}
+use Rattle.std.proofs.Common.{◌≡◌, ℕ, ◌+◌, ◌*◌, ◌<◌, ◌≤◌, Bool, cond, eqb, Some, sym, refl, ap, ◌∙◌, subst, arith}
 use Rattle.std.proofs.lemmas.Bool.Decides.{nat_tests}
-use Rattle.trees.specs.Trees.{Entry, entry, Tree, leaf, node, root_of, occurrences, sum_over, size}
-use Rattle.trees.specs.Leftist.{rank, Leftist, merged}
+use Rattle.trees.specs.Trees.{Tree, root_of, occurrences, size}
+use Rattle.trees.specs.Leftist.{merged}
 use Rattle.trees.specs.Theorems.{Heap, single, pushed}
 use Rattle.trees.proofs.Heaps.{merged_sum, merge_enough, single_heap}
 use Rattle.trees.proofs.Heights.{low_rank}
-use Rattle.memory.specs.Memory.{Node, Memory, changed, put, new_node}
-use Rattle.memory.specs.Steps.{Done, done, then, with_reg, born, load_of, make_of}
-use Rattle.memory.specs.Effects.{Ends, Free}
+use Rattle.memory.specs.Memory.{Memory, put, new_node}
+use Rattle.memory.specs.Steps.{with_reg, born}
+use Rattle.memory.specs.Effects.{Ends}
 use Rattle.memory.proofs.Numbers.{put_same, put_other}
 use Rattle.memory.proofs.By.{ends_then, ends_all, by_load, by_make}
-use Rattle.stored.specs.Stored.{side, as_rank, Stored, inside}
+use Rattle.stored.specs.Stored.{as_rank, inside}
 use Rattle.stored.specs.Writes.{resave_of}
-use Rattle.stored.specs.Becomes.{Cost, cost, Shifts}
+use Rattle.stored.specs.Becomes.{cost, Shifts}
 use Rattle.stored.specs.Whole.{Trees, Room, Spent}
 use Rattle.stored.proofs.Parts.{self, hits_root, keep}
-use Rattle.stored.proofs.Wholes.{none_of, fresh_name, Prepared, save_ends, size_made}
+use Rattle.stored.proofs.Wholes.{none_of, save_ends, size_made}
 use Rattle.queue_steps.specs.Merge.{merge_of}
 use Rattle.queue_steps.specs.Queues.{push_of}
 use Rattle.queue_steps.specs.Theorems.{Pair}

@@ -1,25 +1,23 @@
 -- The held jobs become due.
-use Rattle.std.proofs.Common.{◌≡◌, ℕ, suc, ◌+◌, ◌*◌, ◌<◌, ◌≤◌, Bool, true, cond, eqb, Some, None, Option, sym, refl, ap, ◌∙◌, subst, arith}
-use Rattle.trees.specs.Trees.{Entry, Tree, leaf, node, root_of, occurrences, size}
-use Rattle.trees.specs.Leftist.{rank, merged}
-use Rattle.trees.specs.Theorems.{Heap, merge}
+use Rattle.std.proofs.Common.{◌≡◌, ℕ, ◌+◌, ◌*◌, ◌<◌, cond, eqb, None, sym, ap, ◌∙◌, subst, arith}
+use Rattle.trees.specs.Trees.{Tree, leaf, root_of, occurrences}
+use Rattle.trees.specs.Leftist.{merged}
 use Rattle.trees.proofs.Heaps.{merged_sum, merge_enough, merge_joins}
 use Rattle.trees.proofs.Heights.{low_rank}
-use Rattle.memory.specs.Memory.{Node, Memory, changed, put, hits}
-use Rattle.memory.specs.Steps.{Done, done, then, with_reg, load_of}
-use Rattle.memory.specs.Effects.{Ends, Free}
+use Rattle.memory.specs.Memory.{put, hits}
+use Rattle.memory.specs.Steps.{with_reg}
 use Rattle.memory.proofs.Numbers.{put_same, put_other, hits_some, hits_one}
 use Rattle.memory.proofs.By.{ends_then, ends_all, by_load}
-use Rattle.stored.specs.Stored.{side, colour, as_rank, Stored, inside}
+use Rattle.stored.specs.Stored.{colour, as_rank, inside}
 use Rattle.stored.specs.Writes.{resave_of, Resaved}
 use Rattle.stored.specs.Becomes.{cost, Shifts}
-use Rattle.stored.specs.Whole.{Trees, Whole, Stands, Room, Spent}
+use Rattle.stored.specs.Whole.{Whole}
 use Rattle.stored.proofs.Parts.{no_node, hits_root, keep}
 use Rattle.stored.proofs.Writing.{resave_ends}
 use Rattle.stored.proofs.Wholes.{size_made}
 use Rattle.queue_steps.specs.Merge.{merge_of}
 use Rattle.queue_steps.specs.Queues.{release_of}
-use Rattle.queue_steps.specs.Theorems.{Pair, QueuesAre, ReleaseMerges}
+use Rattle.queue_steps.specs.Theorems.{Pair, ReleaseMerges}
 use Rattle.queue_steps.proofs.Merges.{merge_ends}
 
 pub release_merges : ReleaseMerges

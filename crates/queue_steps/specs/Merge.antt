@@ -7,7 +7,7 @@
 --   sink_of        one level of a merge
 --   swap_of        the heaps of registers d and 39 change places
 --   merge_of       the heap of register 39 joins that of register d
-use Rattle.std.specs.Prelude.{ℕ, zero, suc, ◌^◌, Bool, true, false, cond, nat_le, nat_lt}
+use Rattle.std.specs.Prelude.{ℕ, zero, suc, Bool, true, false, cond, nat_le, nat_lt}
 use Rattle.refusals.specs.declared.kinds.MemoryRefusal.TheVariants.{OutOfRange}
 use Rattle.memory.specs.Memory.{Memory}
 use Rattle.memory.specs.Steps.{Done, done, no, then, check, follow_of, move_of, key_of, number_of, nil_of}

@@ -4,7 +4,7 @@
 --   MergeSteps       the steps of `mergeOf` leave the merged heap
 --   PushJoins        a job joins due, or held
 --   PopTakes         the first due job goes; an empty queue is answered, with nothing written
---   TopAnswers_lem   the key of the first due job is answered
+--   TopAnswersHold   the key of the first due job is answered
 --   ReleaseMerges    the held jobs become due
 use Rattle.std.specs.Prelude.{◌≡◌, ℕ, ◌+◌, ◌*◌, ◌<◌, ◌≤◌, Bool, true, Some, None, Option}
 use Rattle.trees.specs.Trees.{Tree, root_of, occurrences, size}
@@ -13,7 +13,7 @@ use Rattle.memory.specs.Memory.{Memory, changed}
 use Rattle.memory.specs.Effects.{Ends}
 use Rattle.stored.specs.Stored.{as_rank, Stored, inside}
 use Rattle.stored.specs.Becomes.{cost, Shifts}
-use Rattle.trees.specs.Trees.{Entry, leaf, node}
+use Rattle.trees.specs.Trees.{leaf, node}
 use Rattle.trees.specs.Lists.{KeyOrder}
 use Rattle.trees.specs.Theorems.{merge, pushed, popped}
 use Rattle.stored.specs.Whole.{Stands, Room, Spent, Untouched}
@@ -65,8 +65,8 @@ abbrev pub PopTakes : Type 0
 PopTakes = (before sooner : ℕ → ℕ → Bool) → KeyOrder sooner → (m : Memory) (map : Tree Bool ℕ) (due held : Tree ℕ ℕ) → Stands before sooner m map due held → Room m → m.regs 35 ≡ None
     → Ends (pop_of sooner 1 m) (λ k m'. (k ≡ first_due before sooner due) × PopIs before sooner m map due held m')
 
-abbrev pub TopAnswers_lem : Type 0
-TopAnswers_lem = (before sooner : ℕ → ℕ → Bool) (m : Memory) (map : Tree Bool ℕ) (due held : Tree ℕ ℕ) → Stands before sooner m map due held
+abbrev pub TopAnswersHold : Type 0
+TopAnswersHold = (before sooner : ℕ → ℕ → Bool) (m : Memory) (map : Tree Bool ℕ) (due held : Tree ℕ ℕ) → Stands before sooner m map due held
     → Ends (top_of 1 m) (λ k m'. (k ≡ first_due before sooner due) × Untouched m m')
 
 abbrev pub ReleaseMerges : Type 0

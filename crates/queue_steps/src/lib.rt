@@ -1,7 +1,7 @@
 // The queues' rows of steps. Each function here names theorems by its contract; nothing of it is run.
 #![tactic(auto)]
 
-ghost use Rattle.queue_steps.specs.Theorems.{MergeSteps, PushJoins, PopTakes, TopAnswers_lem, ReleaseMerges};
+ghost use Rattle.queue_steps.specs.Theorems.{MergeSteps, PushJoins, PopTakes, TopAnswersHold, ReleaseMerges};
 
 // Two heaps under registers become the merged heap.
 pub fn merge_theorem_holds() -> u8
@@ -14,7 +14,7 @@ pub fn merge_theorem_holds() -> u8
 pub fn queue_theorems_hold() -> u8
     ensures push { PushJoins }
     ensures pop { PopTakes }
-    ensures top { TopAnswers_lem }
+    ensures top { TopAnswersHold }
     ensures release { ReleaseMerges }
 {
     0

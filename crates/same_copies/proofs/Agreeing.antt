@@ -1,7 +1,6 @@
 -- Copies that agree below their number are sound, threaded and of one size together.
-use Rattle.std.proofs.Common.{◌≡◌, ℕ, ◌<◌, ◌≤◌, Bool, true, List, Some, None, Option, sym, refl, ap, ◌∙◌, subst}
-use Rattle.fields.specs.declared.kinds.Value.{Value}
-use Rattle.entries.specs.Entries.{Entry, EachVersion}
+use Rattle.std.proofs.Common.{◌≡◌, ℕ, ◌<◌, ◌≤◌, Some, None, Option, sym, ap, ◌∙◌, subst}
+use Rattle.entries.specs.Entries.{EachVersion}
 use Rattle.entries.proofs.Versions.{each_like}
 use Rattle.slices.specs.Copies.{Copy, Copies, value_at, Serves, CopyOk, Sound}
 use Rattle.slices.specs.Threads.{NextIs, Threaded}

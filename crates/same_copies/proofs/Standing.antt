@@ -1,17 +1,15 @@
 -- Copies that agree below their number stand for the same states, within the same space.
-use Rattle.std.proofs.Common.{◌≡◌, ℕ, suc, ◌+◌, ◌-◌, ◌*◌, ◌<◌, ◌≤◌, Bool, true, false, cond, eqb, List, length, Some, None, Option, sym, refl, ap, ◌∙◌, subst}
+use Rattle.std.proofs.Common.{◌≡◌, ℕ, ◌+◌, ◌-◌, ◌*◌, ◌<◌, ◌≤◌, true, false, cond, eqb, List, length, Some, None, Option, sym, refl, ap, ◌∙◌, subst}
 use Rattle.fields.specs.declared.kinds.Value.{Value}
 use Rattle.fields.specs.declared.kinds.Value.TheVariants.{Number, Nil, To, From}
 use Rattle.order.specs.Items.{position}
-use Rattle.memory.specs.Memory.{Memory, sum_to}
 use Rattle.memory.proofs.Numbers.{sum_same}
-use Rattle.slices.specs.Copies.{Copy, Copies, value_at, Serves, Sound}
+use Rattle.slices.specs.Copies.{Copy, Copies, value_at, Sound}
 use Rattle.states.specs.Nodes.{NodeState, by_serial, Shows}
 use Rattle.space.specs.Space.{size, all_entries, surplus, except}
 use Rattle.space.specs.Runs.{World, Kept}
-use Rattle.meaning.specs.Tables.{Splitting}
 use Rattle.meaning.specs.Meaning.{world_of, RegisterHolds, Stands}
-use Rattle.same_copies.specs.Same.{SameCopies, world_with, memory_with, SameKept, SameStands}
+use Rattle.same_copies.specs.Same.{world_with, memory_with, SameKept, SameStands}
 use Rattle.same_copies.proofs.Agreeing.{taking, taken_is, serves_same, serves_back, same_sound}
 
 serial_same : (M : Copies) (g : ℕ → Copy) (h : (i : ℕ) → i < M.total → g i ≡ M.copy i) (v : Value) → ((k : ℕ) → v ≡ To k → k < M.total) → by_serial M v ≡ by_serial (taking M g) v

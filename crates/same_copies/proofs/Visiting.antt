@@ -1,5 +1,5 @@
 -- The copies after visits and a cut are those of the split.
-use Rattle.std.proofs.Common.{◌≡◌, ℕ, suc, ◌<◌, Bool, true, false, leb, sym, refl, ap, ◌∙◌, subst, inl, inr, arith}
+use Rattle.std.proofs.Common.{◌≡◌, ℕ, ◌<◌, Bool, false, leb, sym, refl, ap, ◌∙◌, subst, inl, inr, arith}
 use Rattle.std.proofs.lemmas.Bool.{cases_Bool, cases_eq}
 use Rattle.slices.specs.Copies.{Copy, Copies, Serves, serving, Sound}
 use Rattle.slices.specs.Splits.{naming, renamed_copy, front_half, back_half, split}
@@ -7,8 +7,7 @@ use Rattle.slices.specs.Partners.{redirected_copy}
 use Rattle.slices.proofs.Redirecting.{split_redirects, partners_found}
 use Rattle.slices.proofs.Partnering.{split_idle}
 use Rattle.slices.proofs.Splitting.{copy_new, copy_old, copy_else}
-use Rattle.same_copies.specs.Same.{SameCopies}
-use Rattle.same_copies.specs.Visits.{Parted, Suffices, VisitsSplit}
+use Rattle.same_copies.specs.Visits.{Suffices, VisitsSplit}
 
 copy_is : (j k : Copy) → j.serial ≡ k.serial → j.key ≡ k.key → j.lo ≡ k.lo → ((f : ℕ) → j.first f ≡ k.first f) → j.entries ≡ k.entries → j ≡ k
 copy_is j k s y l f e = λ i. record { serial = s i; key = y i; lo = l i; first = λ g. f g i; entries = e i }

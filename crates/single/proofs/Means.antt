@@ -1,15 +1,15 @@
 -- What the calls leave means what the steps come to.
-use Rattle.std.proofs.Common.{◌≡◌, ℕ, zero, suc, ◌+◌, ◌-◌, ◌<◌, ◌≤◌, Bool, true, false, cond, eqb, ltb, leb, List, [], ◌∷◌, length, get_or, set, is_some, Some, None, vec_items, vec_len, Option, sym, refl, ap, ◌∙◌, subst, arith, length-set}
+use Rattle.std.proofs.Common.{◌≡◌, ℕ, ◌+◌, ◌-◌, ◌<◌, ◌≤◌, Bool, true, false, cond, leb, List, length, get_or, set, is_some, Some, None, vec_items, vec_len, Option, sym, refl, ap, ◌∙◌, subst, arith, length-set}
 use Rattle.std.proofs.lemmas.Bool.Decides.{nat_tests}
 use Rattle.memory.specs.Memory.{Node, Memory, changed, put, hits, with_link, with_number, new_node, renamed, names_of}
 use Rattle.memory.specs.Effects.{Holds, Free}
-use Rattle.memory.proofs.Numbers.{put_same, put_other, lt_from, le_true, eq_true, eq_false, some_same, none_some, hits_none}
+use Rattle.memory.proofs.Numbers.{put_other, lt_from, le_true, eq_true, hits_none}
 use Rattle.single.specs.declared.node.Node.{Node as Row}
 use Rattle.single.specs.declared.store.SingleMemory.{SingleMemory}
-use Rattle.single.specs.Rows.{below, all_below, new_row, row_linked, row_valued, row_marked, row_named, blank, names_at, raised, lowered, is_at, crowds}
+use Rattle.single.specs.Rows.{below, all_below, new_row, row_linked, row_valued, row_marked, row_named, blank, names_at, raised, lowered, crowds}
 use Rattle.single.specs.Single.{SameNode, RowsMean, SingleMeans}
 use Rattle.single.specs.Making.{make_refusal}
-use Rattle.single.proofs.Table.{all_at, all_set, all_none, none_at, more, ref_low, any_default, at_set, array_set, renamed_at, length_raised, length_renamed, Fine, fine_set, fine_more, fine_renamed, crowds_set}
+use Rattle.single.proofs.Table.{all_at, all_none, none_at, more, ref_low, any_default, at_set, array_set, renamed_at, length_raised, length_renamed, Fine, fine_set, fine_more, fine_renamed, crowds_set}
 
 -- the table of a memory is fine
 pub fine : (s : SingleMemory) → Fine s.made (vec_items s.rows)

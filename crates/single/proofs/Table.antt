@@ -1,11 +1,11 @@
 -- Arrays of links, and rows of the table: what stays in range, and what a write leaves.
-use Rattle.std.proofs.Common.{◌≡◌, ℕ, zero, suc, ◌+◌, ◌-◌, ◌<◌, ◌≤◌, Bool, true, false, cond, eqb, ltb, leb, ◌⊎◌, List, [], ◌∷◌, length, get_or, set, replicate, Some, None, Option, sym, refl, ap, ◌∙◌, subst, ⊎_elim, arith, length-set, get_or-set_other, get_or-set_same}
+use Rattle.std.proofs.Common.{◌≡◌, ℕ, zero, suc, ◌+◌, ◌-◌, ◌<◌, ◌≤◌, Bool, true, false, cond, leb, List, [], ◌∷◌, length, get_or, set, replicate, Some, None, Option, sym, refl, ap, ◌∙◌, subst, ⊎_elim, arith, length-set, get_or-set_other, get_or-set_same}
 use Rattle.std.proofs.lemmas.Bool.{cases_eq}
 use Rattle.std.proofs.lemmas.Bool.Decides.{nat_tests}
-use Rattle.memory.specs.Memory.{put, hits, renamed, names_of}
+use Rattle.memory.specs.Memory.{put, hits}
 use Rattle.memory.proofs.Numbers.{put_other, lt_from, lt_true, eq_true, eq_false, some_same, none_some, hits_none}
 use Rattle.single.specs.declared.node.Node.{Node as Row}
-use Rattle.single.specs.Rows.{below, all_below, row_named, blank, names_at, raised, lowered, is_at, crowds}
+use Rattle.single.specs.Rows.{below, all_below, row_named, blank, raised, lowered, is_at, crowds}
 
 both : (a b : Bool) → cond a b false ≡ true → (a ≡ true) × (b ≡ true)
 both true b h = (refl, h)

@@ -2,7 +2,7 @@
 --
 --   make_refusal   1 where a limit is outside its range, else 2 where the table is too short, else nothing
 --   MadeIs         a memory that means the fresh memory, or the refusal with the table handed back
-use Rattle.std.specs.Prelude.{◌≡◌, ℕ, Bool, true, false, cond, ◌&&◌, Some, None, Ok, Err, Option, Result, nat_le}
+use Rattle.std.specs.Prelude.{◌≡◌, ℕ, cond, ◌&&◌, Some, None, Ok, Err, Option, Result, nat_le}
 use Rattle.refusals.specs.declared.kinds.MakerRefusal.{MakerRefusal}
 use Rattle.refusals.specs.declared.kinds.MakerRefusal.TheVariants.{LimitOutOfRange, TableTooShort}
 use Rattle.memory.specs.Memory.{fresh_single}

@@ -5,7 +5,7 @@
 --   names_at                                                 the number of names of what a link, root or register holds
 --   crowds                                                   whether a node would get a third name
 --   raised, lowered                                          the table with one name more, or one less
-use Rattle.std.specs.Prelude.{◌≡◌, ℕ, ◌+◌, ◌-◌, ◌≤◌, Bool, true, false, cond, List, [], ◌∷◌, get_or, replicate, Some, None, Option, ◌==◌, nat_le, nat_lt, slice_index_or, slice_set}
+use Rattle.std.specs.Prelude.{ℕ, ◌+◌, ◌-◌, Bool, true, false, cond, List, [], ◌∷◌, get_or, replicate, Some, None, Option, ◌==◌, nat_le, nat_lt, slice_index_or, slice_set}
 use Rattle.single.specs.declared.node.Node.{Node as Row}
 
 abbrev pub below : ℕ → Option ℕ → Bool

@@ -4,7 +4,7 @@
 --   RowsMean      the table means the nodes and their numbers of names
 --   SingleMeans   the memory means an abstract memory
 --   SingleAlike   two memories differ at most in their registers
-use Rattle.std.specs.Prelude.{◌≡◌, ℕ, ◌<◌, ◌≤◌, Bool, true, false, cond, List, length, get_or, Some, None, vec_items, vec_len, Option, slice_index_or}
+use Rattle.std.specs.Prelude.{◌≡◌, ℕ, ◌<◌, ◌≤◌, true, List, get_or, Some, None, vec_items, Option, slice_index_or}
 use Rattle.memory.specs.Memory.{Memory, Node, changed}
 use Rattle.single.specs.declared.node.Node.{Node as Row}
 use Rattle.single.specs.declared.store.SingleMemory.{SingleMemory}

@@ -1,7 +1,7 @@
 // The calls of a single-version memory. It takes any order, and asks it nothing.
 ghost use Rattle.std.specs.Prelude.{◌≡◌, true};
 ghost use Rattle.single.specs.Single.{SingleMeans, SingleAlike};
-ghost use Rattle.std.proofs.Common.{rules, arith};
+ghost use Rattle.std.proofs.Common.{rules};
 
 use crate::names::{crowded, lower, raise};
 use crate::node::Node;
@@ -17,9 +17,9 @@ impl PointerMemory for SingleMemory {
 
     ghost alike = { λ s t. SingleAlike s t };
 
-    ghost fits = { first_of (Prim.search rules, Prim.grind (arith, Self.row.coded.inj)) };
+    ghost fits = { Prim.search rules };
 
-    ghost likeness = { first_of (Prim.search rules, Prim.grind (arith, Self.row.coded.inj)) };
+    ghost likeness = { Prim.search rules };
 
     fn load<O: VersionOrder>(
         &mut self,

@@ -3,7 +3,7 @@ use Rattle.std.proofs.Common.{◌≡◌, ℕ, Bool, true, false, cond, leb, Some
 use Rattle.refusals.specs.declared.kinds.MakerRefusal.TheVariants.{TableTooShort}
 use Rattle.refusals.specs.declared.kinds.MemoryRefusal.{MemoryRefusal}
 use Rattle.memory.specs.Memory.{Memory, fresh_single}
-use Rattle.memory.specs.Steps.{Done, load_of, follow_of, number_of, make_of, save_of, link_of}
+use Rattle.memory.specs.Steps.{load_of, follow_of, number_of, make_of, save_of, link_of}
 use Rattle.memory.specs.Promises.{Comes}
 use Rattle.memory.specs.Effects.{Ends}
 use Rattle.memory.proofs.Rows.{comes_to_end}

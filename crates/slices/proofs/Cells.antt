@@ -1,5 +1,5 @@
 -- A slice with one field replaced.
-use Rattle.std.proofs.Common.{◌≡◌, ℕ, ◌-◌, ◌⊎◌, arith}
+use Rattle.std.proofs.Common.{◌≡◌, ℕ, ◌⊎◌, arith}
 use Rattle.fields.specs.declared.kinds.Value.{Value}
 use Rattle.slices.specs.Slices.{with_value}
 

@@ -1,5 +1,5 @@
 -- A version comes in: every slice goes with its version.
-use Rattle.std.proofs.Common.{◌≡◌, ℕ, suc, ◌-◌, ◌<◌, ◌≤◌, Bool, cond, eqb, leb, List, [], ◌∷◌, sym, refl, ap, ◌∙◌, subst, arith}
+use Rattle.std.proofs.Common.{◌≡◌, ℕ, suc, ◌<◌, ◌≤◌, Bool, cond, eqb, leb, List, [], ◌∷◌, sym, refl, ap, ◌∙◌, subst, arith}
 use Rattle.fields.specs.declared.kinds.Value.{Value}
 use Rattle.entries.specs.Entries.{Entry, hits, read, AllFrom, Sorted, Single, Lacks, both, EachVersion}
 use Rattle.slices.specs.Copies.{Copy, Copies, value_at, Serves, CopyOk, Shaped}

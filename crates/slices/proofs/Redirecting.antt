@@ -4,14 +4,14 @@ use Rattle.std.proofs.Common.{◌≡◌, ℕ, suc, ◌<◌, ◌≤◌, Bool, tru
 use Rattle.std.proofs.lemmas.Bool.{cases_lt, cases_Bool, cases_eq, eq-eqb, ne_eqb, le-leb, lt-leb}
 use Rattle.fields.specs.declared.kinds.Value.{Value}
 use Rattle.fields.specs.declared.kinds.Value.TheVariants.{Number, Nil, To, From}
-use Rattle.entries.specs.Entries.{Entry, both, hits, sets, entry, read, AllFrom, Sorted, Single, Lacks, entries_behind, put, mapped, renamed, EachVersion}
+use Rattle.entries.specs.Entries.{Entry, both, hits, sets, entry, read, Sorted, Single, Lacks, entries_behind, put, mapped, renamed, EachVersion}
 use Rattle.entries.proofs.Parting.{read_late, read_behind}
 use Rattle.entries.proofs.Idle.{read_none}
 use Rattle.entries.proofs.Renaming.{renamed_reads, sorted_renamed, single_renamed}
-use Rattle.slices.specs.Slices.{Coherent, swap, swapped}
-use Rattle.slices.specs.Copies.{Copy, Copies, value_at, Serves, CopyOk, Sound}
-use Rattle.slices.specs.Splits.{times, naming, names, renames, maps, renamed_copy}
-use Rattle.slices.specs.Partners.{names_one, redirect, redirects, redirect_maps, redirected_copy, ValuesOf, SplitRedirects, RedirectTwice, PartnersFound}
+use Rattle.slices.specs.Slices.{swap, swapped}
+use Rattle.slices.specs.Copies.{Copies, value_at, Serves, Sound}
+use Rattle.slices.specs.Splits.{times, naming, names, renames, maps}
+use Rattle.slices.specs.Partners.{names_one, redirect, redirects, redirect_maps, ValuesOf, SplitRedirects, RedirectTwice, PartnersFound}
 
 -- where the new copy is not named, exchanging and redirecting are the same
 swap_free : (c d k : ℕ) → eqb k d ≡ false → swap c d k ≡ cond (eqb k c) d k

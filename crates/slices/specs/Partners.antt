@@ -8,7 +8,7 @@
 --   RedirectTwice                               redirecting a copy twice is redirecting it once
 --   SplitIdle                                   the copies that a split leaves as they are
 --   PartnersFound                               a copy that names the split one is named by it, at x or by an entry behind x
-use Rattle.std.specs.Prelude.{◌≡◌, ℕ, ◌<◌, ◌≤◌, Bool, true, false, cond, List, [], ◌∷◌, ◌==◌, ◌≢◌, nat_le}
+use Rattle.std.specs.Prelude.{◌≡◌, ℕ, ◌<◌, ◌≤◌, Bool, false, cond, List, [], ◌∷◌, ◌==◌, ◌≢◌, nat_le}
 use Rattle.fields.specs.declared.kinds.Value.{Value}
 use Rattle.fields.specs.declared.kinds.Value.TheVariants.{Number, Nil, To, From}
 use Rattle.entries.specs.Entries.{Entry, entries_behind, mapped, renamed}

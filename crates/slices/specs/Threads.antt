@@ -4,7 +4,7 @@
 --   owns               whether a copy serves a position behind its first version, told by the next copy alone
 --   OwnsServes         this is the test of serving
 --   ThreadsStay        what each step does to the next copies
-use Rattle.std.specs.Prelude.{◌≡◌, ℕ, ◌<◌, ◌≤◌, Bool, true, false, cond, Some, None, Option, ◌==◌, nat_lt}
+use Rattle.std.specs.Prelude.{◌≡◌, ℕ, ◌<◌, ◌≤◌, Bool, true, cond, Some, None, Option, ◌==◌, nat_lt}
 use Rattle.slices.specs.Copies.{Copies, Serves, Decides, Sound}
 use Rattle.slices.specs.Splits.{split}
 use Rattle.slices.specs.Openings.{opened, up}

@@ -1,5 +1,5 @@
 -- The worked figure, computed.
-use Rattle.std.proofs.Common.{◌-◌, refl}
+use Rattle.std.proofs.Common.{refl}
 use Rattle.space.specs.Runs.{fresh_world}
 use Rattle.space.specs.Figure.{chain, calls20, Figure}
 use Rattle.space.proofs.Running.{allowed_runs}

@@ -10,7 +10,7 @@
 -- The argument: a copy is split when it has more than 18 entries, and the two parts have at most nine each above their nine, so that the
 -- surplus falls by at least ten; at most four entries come in elsewhere, so it falls by at least six in all. A change of a number
 -- raises it by at most two, a change of a link by at most six. So splits are at most as many as changes.
-use Rattle.std.specs.Prelude.{◌≡◌, ℕ, ◌+◌, ◌-◌, ◌*◌, ◌/◌, ◌<◌, ◌≤◌, Bool, cond, List, length, ◌==◌, ◌≢◌}
+use Rattle.std.specs.Prelude.{ℕ, ◌+◌, ◌-◌, ◌*◌, ◌/◌, ◌<◌, ◌≤◌, Bool, cond, List, length, ◌==◌, ◌≢◌}
 use Rattle.fields.specs.declared.kinds.Value.{Value}
 use Rattle.entries.specs.Counts.{version_at}
 use Rattle.memory.specs.Memory.{sum_to}

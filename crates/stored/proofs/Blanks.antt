@@ -1,5 +1,5 @@
 -- A node that is taken out loses both its links.
-use Rattle.std.proofs.Common.{◌≡◌, ℕ, ◌+◌, ◌≤◌, Bool, true, false, Some, None, refl, ◌∙◌, arith}
+use Rattle.std.proofs.Common.{◌≡◌, ℕ, ◌+◌, ◌≤◌, Bool, true, false, None, refl, ◌∙◌, arith}
 use Rattle.memory.specs.Memory.{Node, Memory, changed, hits, with_link}
 use Rattle.memory.specs.Steps.{link_of}
 use Rattle.memory.specs.Effects.{Ends, Holds}

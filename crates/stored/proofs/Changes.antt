@@ -1,15 +1,15 @@
 -- Steps that change the tree under a register, and how they follow one another.
-use Rattle.std.proofs.Common.{◌≡◌, ℕ, suc, ◌+◌, ◌<◌, ◌≤◌, Bool, true, false, cond, not, eqb, Some, None, Option, sym, refl, ap, ◌∙◌, subst, arith}
-use Rattle.trees.specs.Trees.{Entry, Tree, leaf, node, is_node, root_of, child, with_child, with_mark, occurrences, Distinct}
-use Rattle.memory.specs.Memory.{Node, Memory, changed, put, hits}
-use Rattle.memory.specs.Steps.{Done, done, then, with_reg}
-use Rattle.memory.specs.Effects.{Ends, Holds, Free}
-use Rattle.memory.proofs.Numbers.{put_same, put_other, hits_some}
+use Rattle.std.proofs.Common.{◌≡◌, ℕ, ◌+◌, ◌<◌, ◌≤◌, Bool, true, false, not, Some, Option, sym, refl, ap, ◌∙◌, subst, arith}
+use Rattle.trees.specs.Trees.{Tree, is_node, root_of, child, with_child, with_mark, occurrences, Distinct}
+use Rattle.memory.specs.Memory.{Node, Memory, changed, hits}
+use Rattle.memory.specs.Steps.{Done, then, with_reg}
+use Rattle.memory.specs.Effects.{Ends, Holds}
+use Rattle.memory.proofs.Numbers.{put_other, hits_some}
 use Rattle.memory.proofs.By.{ends_then}
-use Rattle.stored.specs.Stored.{side, NodeAt, Stored, inside, NamedOnce}
+use Rattle.stored.specs.Stored.{side, NamedOnce}
 use Rattle.stored.specs.Writes.{relink_of, renumber_of, Relinked, Renumbered}
 use Rattle.stored.specs.Becomes.{Cost, cost, nothing, plus, writes, Ready, Shifts, Becomes}
-use Rattle.stored.proofs.Parts.{self, hits_root, of_children, inside_children, of-with_child, root-with_child, root-with_mark, of-with_mark, is_node_lem, root_of_lem, stored_child, stored_root}
+use Rattle.stored.proofs.Parts.{hits_root, of_children, inside_children, of-with_child, root-with_child, root-with_mark, of-with_mark, is_node_lem, root_of_lem, stored_child, stored_root}
 use Rattle.stored.proofs.Nodes.{link_stored, under_stored, mark_stored}
 use Rattle.stored.proofs.Writing.{relink_ends, renumber_ends}
 

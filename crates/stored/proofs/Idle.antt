@@ -1,13 +1,13 @@
 -- A link, number or root that holds what it should is not written.
-use Rattle.std.proofs.Common.{◌≡◌, ℕ, ◌<◌, Bool, true, false, cond, eqb, Some, None, Option, sym, refl, ap, ◌∙◌, arith}
-use Rattle.memory.specs.Memory.{Node, Memory, put}
-use Rattle.memory.specs.Steps.{Done, done, then, with_reg, same_ref}
+use Rattle.std.proofs.Common.{◌≡◌, ℕ, ◌<◌, Bool, true, cond, eqb, Some, None, Option, sym, refl, ◌∙◌, arith}
+use Rattle.memory.specs.Memory.{Node, Memory}
+use Rattle.memory.specs.Steps.{Done, with_reg, same_ref}
 use Rattle.memory.specs.Effects.{Ends, Holds}
 use Rattle.memory.proofs.Numbers.{put_same, put_other, eq_true}
 use Rattle.memory.proofs.By.{ends_cond, by_load, by_follow, by_number, by_same}
 use Rattle.stored.specs.Stored.{side}
 use Rattle.stored.specs.Writes.{relink_of, renumber_of, resave_of}
-use Rattle.stored.specs.Theorems.{Idle, IdleWrites, IdleWritesHold}
+use Rattle.stored.specs.Theorems.{Idle, IdleWritesHold}
 use Rattle.stored.proofs.Parts.{side_low, no_test}
 
 same_self : (x : Option ℕ) → same_ref x x ≡ true

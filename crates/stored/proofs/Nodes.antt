@@ -1,6 +1,6 @@
 -- One node of a tree is written: the tree that stands there then.
-use Rattle.std.proofs.Common.{◌≡◌, ℕ, suc, ◌+◌, ◌<◌, ◌≤◌, Bool, true, false, cond, not, eqb, Some, None, Option, sym, refl, ap, ◌∙◌, subst, arith}
-use Rattle.trees.specs.Trees.{Entry, entry, Tree, leaf, node, is_node, root_of, child, with_child, with_mark, node_on, occurrences, Distinct}
+use Rattle.std.proofs.Common.{◌≡◌, ℕ, ◌+◌, ◌≤◌, Bool, true, false, not, Some, Option, sym, refl, ap, ◌∙◌, arith}
+use Rattle.trees.specs.Trees.{Entry, entry, Tree, leaf, node, root_of, child, with_child, with_mark, node_on, occurrences, Distinct}
 use Rattle.memory.specs.Memory.{Node, hits}
 use Rattle.memory.proofs.Numbers.{some_same}
 use Rattle.stored.specs.Stored.{side, NodeAt, Stored, inside}

@@ -1,7 +1,6 @@
 -- A tree and its children, whichever the side: nodes counted, and nodes that stand in a memory.
-use Rattle.std.proofs.Common.{◌≡◌, ℕ, suc, ◌+◌, ◌<◌, ◌≤◌, Bool, true, false, cond, not, eqb, Some, None, Option, sym, refl, ap, ◌∙◌, subst, arith}
-use Rattle.std.proofs.lemmas.Bool.Decides.{nat_tests}
-use Rattle.trees.specs.Trees.{Entry, Tree, leaf, node, is_node, root_of, child, with_child, with_mark, node_on, rotated, sum_over, occurrences, Distinct}
+use Rattle.std.proofs.Common.{◌≡◌, ℕ, ◌+◌, ◌<◌, ◌≤◌, Bool, true, false, cond, not, eqb, Some, None, Option, sym, refl, ap, ◌∙◌, arith}
+use Rattle.trees.specs.Trees.{Entry, Tree, leaf, node, is_node, root_of, child, with_child, with_mark, node_on, rotated, sum_over, occurrences}
 use Rattle.memory.specs.Memory.{Node, hits}
 use Rattle.memory.proofs.Numbers.{hits_some}
 use Rattle.stored.specs.Stored.{side, NodeAt, Stored, inside}

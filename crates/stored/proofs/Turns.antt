@@ -1,14 +1,14 @@
 -- The rotation of the tree under a register.
-use Rattle.std.proofs.Common.{◌≡◌, ℕ, suc, ◌+◌, ◌<◌, ◌≤◌, Bool, true, false, cond, not, eqb, Some, None, Option, sym, refl, ap, ◌∙◌, subst, arith}
-use Rattle.trees.specs.Trees.{Entry, Tree, leaf, node, is_node, root_of, child, node_on, rotated, occurrences, Distinct}
-use Rattle.memory.specs.Memory.{Node, Memory, changed, put, hits}
-use Rattle.memory.specs.Steps.{Done, done, then, with_reg, move_of}
-use Rattle.memory.specs.Effects.{Ends, Holds, Free}
+use Rattle.std.proofs.Common.{◌≡◌, ℕ, ◌+◌, ◌<◌, ◌≤◌, Bool, true, false, not, Some, sym, ap, ◌∙◌, subst, arith}
+use Rattle.trees.specs.Trees.{Entry, Tree, leaf, node, is_node, root_of, child, node_on, rotated, occurrences}
+use Rattle.memory.specs.Memory.{Memory, changed, put, hits}
+use Rattle.memory.specs.Steps.{with_reg, move_of}
+use Rattle.memory.specs.Effects.{Ends}
 use Rattle.memory.proofs.Numbers.{put_same, put_other, hits_some, some_same}
 use Rattle.memory.proofs.By.{ends_last, by_follow, by_link, by_move}
-use Rattle.stored.specs.Stored.{side, NodeAt, Stored, inside, NamedOnce}
-use Rattle.stored.specs.Writes.{rotate_of, Relinked}
-use Rattle.stored.specs.Becomes.{Cost, cost, Ready, Shifts, Becomes}
+use Rattle.stored.specs.Stored.{side, Stored, inside, NamedOnce}
+use Rattle.stored.specs.Writes.{rotate_of}
+use Rattle.stored.specs.Becomes.{cost, Ready, Becomes}
 use Rattle.stored.proofs.Parts.{self, side_low, no_test, hits_root, node_on_lem, on_node_lem, keep_else}
 use Rattle.stored.proofs.Nodes.{root_on, of_on, inside_on, link_node, move_node}
 use Rattle.stored.proofs.Writing.{from_linked}

@@ -1,15 +1,15 @@
 -- A tree is changed and its root saved: what the whole state is then. And how many nodes the trees hold.
 use Rattle.std.proofs.Common.{◌≡◌, ℕ, zero, suc, ◌+◌, ◌<◌, ◌≤◌, Bool, true, false, cond, eqb, ltb, Some, None, Option, sym, refl, ap, ◌∙◌, subst, arith}
 use Rattle.std.proofs.lemmas.Bool.Decides.{nat_tests}
-use Rattle.trees.specs.Trees.{Tree, leaf, node, root_of, sum_over, size, occurrences, Distinct}
-use Rattle.memory.specs.Memory.{Node, Memory, changed, put, hits, sum_to}
+use Rattle.trees.specs.Trees.{Tree, leaf, node, root_of, size, occurrences}
+use Rattle.memory.specs.Memory.{Node, Memory, hits, sum_to}
 use Rattle.memory.specs.Steps.{with_reg}
 use Rattle.stored.specs.Stored.{side, Stored, inside, NamedOnce}
 use Rattle.memory.specs.Effects.{Ends, Free}
 use Rattle.memory.proofs.Numbers.{hits_some, lt_from}
 use Rattle.memory.proofs.By.{ends_all}
 use Rattle.stored.specs.Writes.{resave_of, Spends, Resaved}
-use Rattle.stored.specs.Becomes.{Cost, Ready, Shifts, Becomes}
+use Rattle.stored.specs.Becomes.{Cost, Ready, Becomes}
 use Rattle.stored.proofs.Writing.{resave_ends}
 use Rattle.stored.specs.Whole.{Trees, Untouched}
 use Rattle.stored.proofs.Parts.{self, hits_root, keep}

@@ -1,12 +1,12 @@
 -- The steps that write only what differs.
-use Rattle.std.proofs.Common.{◌≡◌, ℕ, suc, ◌+◌, ◌<◌, ◌≤◌, Bool, true, false, cond, not, eqb, Some, None, Option, sym, refl, ap, ◌∙◌, subst, arith}
-use Rattle.memory.specs.Memory.{Node, Memory, changed, put, hits, with_link, with_number}
-use Rattle.memory.specs.Steps.{Done, done, then, with_reg, is_nil, same_ref, load_of, follow_of, move_of, number_of, same_of, save_of, link_of, set_number_of}
-use Rattle.memory.specs.Effects.{Ends, Holds, Free, Changed, Wrote, Linked, Numbered, Rooted}
-use Rattle.memory.proofs.Numbers.{put_same, put_other, eq_from, not_eq}
-use Rattle.memory.proofs.By.{ends_then, ends_all, ends_cond, ends_last, by_load, by_follow, by_number, by_same, by_link, by_save, by_set_number}
+use Rattle.std.proofs.Common.{◌≡◌, ℕ, ◌+◌, ◌<◌, ◌≤◌, Bool, true, false, not, eqb, Some, None, Option, sym, refl, ap, ◌∙◌, arith}
+use Rattle.memory.specs.Memory.{Node, Memory, hits, with_link, with_number}
+use Rattle.memory.specs.Steps.{with_reg, same_ref, save_of, link_of, set_number_of}
+use Rattle.memory.specs.Effects.{Ends, Holds, Free, Changed, Linked}
+use Rattle.memory.proofs.Numbers.{put_same, put_other, eq_from}
+use Rattle.memory.proofs.By.{ends_cond, ends_last, by_load, by_follow, by_number, by_same, by_link, by_save, by_set_number}
 use Rattle.stored.specs.Stored.{side}
-use Rattle.stored.specs.Writes.{relink_of, renumber_of, resave_of, Spends, Edited, Relinked, Renumbered, Resaved}
+use Rattle.stored.specs.Writes.{relink_of, renumber_of, resave_of, Spends, Relinked, Renumbered, Resaved}
 use Rattle.stored.proofs.Parts.{side_low, no_test}
 
 same_true : (x y : Option ℕ) → same_ref x y ≡ true → x ≡ y

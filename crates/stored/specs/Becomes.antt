@@ -5,7 +5,7 @@
 --   Ready                               a tree under a register that may be changed
 --   Shifts                              a tree under a register, made of given nodes, and all else as before
 --   Becomes                             the tree under a register has become another
-use Rattle.std.specs.Prelude.{◌≡◌, ℕ, ◌+◌, ◌<◌, ◌≤◌, Bool, true}
+use Rattle.std.specs.Prelude.{◌≡◌, ℕ, ◌+◌, ◌<◌, ◌≤◌, true}
 use Rattle.trees.specs.Trees.{Tree, root_of, occurrences, Distinct}
 use Rattle.memory.specs.Memory.{Memory}
 use Rattle.stored.specs.Stored.{Stored, inside}

@@ -2,9 +2,9 @@
 --
 --   RotationTurns    a rotation makes of the tree under its register the rotated tree, by two link writes
 --   IdleWritesHold   a link, number or root that holds what it should is not written
-use Rattle.std.specs.Prelude.{◌≡◌, ℕ, ◌+◌, ◌<◌, ◌≤◌, Bool, true, Option, ◌≢◌}
+use Rattle.std.specs.Prelude.{◌≡◌, ℕ, ◌+◌, ◌<◌, ◌≤◌, Bool, true, ◌≢◌}
 use Rattle.trees.specs.Trees.{Tree, is_node, child, rotated}
-use Rattle.memory.specs.Memory.{Node, State, Memory, changed}
+use Rattle.memory.specs.Memory.{Node, Memory, changed}
 use Rattle.memory.specs.Effects.{Ends, Holds}
 use Rattle.stored.specs.Stored.{side, NamedOnce}
 use Rattle.stored.specs.Writes.{relink_of, renumber_of, resave_of, rotate_of}

@@ -6,7 +6,7 @@
 --   Room        an update may be made: writes are allowed, and 160 changes are left
 --   Spent       what an update spends at most, and what it leaves alone
 --   Untouched   only registers have changed
-use Rattle.std.specs.Prelude.{◌≡◌, ℕ, ◌+◌, ◌<◌, ◌≤◌, Bool, true, Some, None, Option}
+use Rattle.std.specs.Prelude.{◌≡◌, ℕ, ◌+◌, ◌<◌, ◌≤◌, Bool, true, Some, None}
 use Rattle.trees.specs.Trees.{Tree, root_of, occurrences}
 use Rattle.trees.specs.Theorems.{MapTree, Heap}
 use Rattle.memory.specs.Memory.{Node, Memory, changed}

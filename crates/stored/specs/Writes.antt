@@ -6,7 +6,7 @@
 --   Edited                              one node has become another, by at most so many writes
 --   Relinked, Renumbered, Resaved       a link, a number, a root holds what it should
 --   Cleared                             a node has no links
-use Rattle.std.specs.Prelude.{◌≡◌, ℕ, ◌+◌, ◌≤◌, Bool, true, false, cond, not, Some, None, Option, ◌==◌, ◌≢◌}
+use Rattle.std.specs.Prelude.{◌≡◌, ℕ, ◌+◌, ◌≤◌, Bool, cond, not, Some, None, Option, ◌==◌, ◌≢◌}
 use Rattle.memory.specs.Memory.{Node, Memory, hits}
 use Rattle.memory.specs.Steps.{Done, done, then, load_of, follow_of, move_of, number_of, same_of, save_of, link_of, set_number_of}
 use Rattle.stored.specs.Stored.{side}

@@ -1,5 +1,5 @@
 -- Parts joined again, and keys as two words.
-use Rattle.std.proofs.Common.{◌≡◌, ℕ, zero, suc, ◌+◌, ◌^◌, ◌<◌, ◌≤◌, Bool, true, false, cond, ◌&&◌, eqb, leb, ◌⊎◌, List, [], ◌∷◌, ◌++◌, length, ℤ, pos, negsuc, Some, None, decimal, Option, sym, refl, ap, ◌∙◌, subst, ap₂, inl, inr, arith, w32, SFits}
+use Rattle.std.proofs.Common.{◌≡◌, ℕ, suc, ◌^◌, ◌<◌, true, leb, List, [], ◌∷◌, ◌++◌, length, ℤ, pos, negsuc, Some, None, decimal, Option, sym, refl, ap, ◌∙◌, ap₂, inl, inr, arith, w32, SFits}
 use Rattle.std.specs.Fmt.{signed_decimal}
 use Rattle.std.specs.Char.{is_ascii_digit}
 use Rattle.std.specs.Str.{all_ascii_digits}
@@ -7,9 +7,8 @@ use Rattle.std.proofs.lemmas.Bool.{cases_eq, eq-eqb, ne_eqb, and_parts, leb-true
 use Rattle.keys.specs.declared.piece.PieceKey.{PieceKey}
 use Rattle.keys.specs.declared.job.JobKey.{JobKey}
 use Rattle.keys.specs.Shown.{piece_text, job_text}
-use Rattle.text.specs.Numbers.{number_of, integer_of, both}
+use Rattle.text.specs.Numbers.{both}
 use Rattle.text.specs.Parts.{in_front, parts, joined, Without, words}
-use Rattle.text.specs.Left.{behind_first, read_first}
 use Rattle.text.specs.Keyed.{piece_key, job_key, piece_of, job_of}
 use Rattle.text.specs.Laws.{PartsJoin, PartsSplit, PiecesReadBack, PiecesAreWritten, JobsReadBack, JobsAreWritten}
 use Rattle.text.proofs.Cuts.{parts_first}

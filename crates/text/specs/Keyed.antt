@@ -2,7 +2,7 @@
 --
 --   piece_of   the piece key that the first two words write, or nothing
 --   job_of     the job key that the first two words write, or nothing
-use Rattle.std.specs.Prelude.{ℕ, List, ℤ, Some, None, Option}
+use Rattle.std.specs.Prelude.{ℕ, List, ℤ, Option}
 use Rattle.keys.specs.declared.piece.PieceKey.{PieceKey}
 use Rattle.keys.specs.declared.job.JobKey.{JobKey}
 use Rattle.text.specs.Numbers.{number_of, integer_of, both}

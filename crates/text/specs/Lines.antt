@@ -3,7 +3,7 @@
 --   told          a line is to be answered: it is not empty and does not start with #
 --   next_told     the first such line, or nothing
 --   behind_told   the lines behind it
-use Rattle.std.specs.Prelude.{ℕ, Bool, true, false, cond, not, List, [], ◌∷◌, Some, None, Option, ◌==◌}
+use Rattle.std.specs.Prelude.{ℕ, Bool, false, cond, not, List, [], ◌∷◌, Some, None, Option, ◌==◌}
 
 -- byte 35 is #
 abbrev pub told : List ℕ → Bool

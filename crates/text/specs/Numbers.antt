@@ -7,7 +7,7 @@
 --   integer_of   the signed 32-bit number that a text writes, or nothing
 --   both         what two values make, where both are there
 --   numbers_of   the 64-bit numbers that some texts write, where each one does
-use Rattle.std.specs.Prelude.{ℕ, ◌+◌, ◌-◌, ◌*◌, ◌^◌, Bool, true, false, cond, not, ◌&&◌, List, [], ◌∷◌, length, drop, ℤ, pos, negsuc, Some, None, Option, ◌==◌, nat_le, nat_lt, slice_index}
+use Rattle.std.specs.Prelude.{ℕ, ◌+◌, ◌-◌, ◌*◌, ◌^◌, Bool, cond, not, ◌&&◌, List, [], ◌∷◌, length, drop, ℤ, pos, negsuc, Some, None, Option, ◌==◌, nat_le, nat_lt, slice_index}
 use Rattle.std.specs.Str.{all_ascii_digits}
 
 -- the number that digits write, behind those of n; the digit 0 is byte 48

@@ -6,7 +6,7 @@
 --   joined    the text of some parts, with s between them
 --   Without   a part has no s
 --   words     the parts at spaces
-use Rattle.std.specs.Prelude.{◌≡◌, ℕ, cond, List, [], ◌∷◌, ◌++◌, Some, None, Option, ◌==◌, ◌≢◌}
+use Rattle.std.specs.Prelude.{ℕ, cond, List, [], ◌∷◌, ◌++◌, Some, None, Option, ◌==◌, ◌≢◌}
 
 -- the text before the first s
 abbrev pub up_to : ℕ → List ℕ → List ℕ

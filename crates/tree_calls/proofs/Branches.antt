@@ -1,8 +1,8 @@
 -- A row of calls that branches, and the rows of `relink` and `rotate`.
-use Rattle.std.proofs.Common.{◌≡◌, ℕ, Bool, true, false, cond, not, Ok, Err, Result, refl, subst}
+use Rattle.std.proofs.Common.{◌≡◌, ℕ, Bool, true, false, cond, not, Ok, Result, subst}
 use Rattle.refusals.specs.declared.kinds.MemoryRefusal.{MemoryRefusal}
 use Rattle.memory.specs.Memory.{Memory}
-use Rattle.memory.specs.Steps.{Done, done, then, follow_of, move_of, same_of, link_of}
+use Rattle.memory.specs.Steps.{Done, follow_of, move_of, same_of, link_of}
 use Rattle.memory.specs.Promises.{Comes, Does, Tells}
 use Rattle.memory.proofs.Rows.{step_ok, last_call}
 use Rattle.stored.specs.Stored.{side}

@@ -1,10 +1,10 @@
 -- Merge, push and pop of leftist heaps.
-use Rattle.std.proofs.Common.{◌≡◌, ℕ, zero, suc, ◌+◌, ◌≤◌, min, Bool, true, false, cond, not, ◌&&◌, eqb, leb, sym, refl, ap, ◌∙◌, subst, arith}
+use Rattle.std.proofs.Common.{◌≡◌, ℕ, zero, suc, ◌+◌, ◌≤◌, Bool, true, false, cond, eqb, refl, arith}
 use Rattle.std.proofs.lemmas.Bool.Decides.{nat_tests}
-use Rattle.trees.specs.Trees.{Entry, entry, Tree, leaf, node, sum_over}
+use Rattle.trees.specs.Trees.{Entry, Tree, leaf, node, sum_over}
 use Rattle.trees.specs.Lists.{KeyOrder}
 use Rattle.trees.specs.Leftist.{rank, Leftist, RootNotBefore, HeapOrdered, joined, merged, same_key, NoneBefore}
-use Rattle.trees.specs.Theorems.{Heap, merge, single, pushed, popped, MergedOf, PushedTo, PoppedFrom, MergeJoins, PushAdds, PopTakes}
+use Rattle.trees.specs.Theorems.{Heap, merge, single, MergeJoins, PushAdds, PopTakes}
 use Rattle.trees.proofs.Insertion.{by_test}
 use Rattle.trees.proofs.Sorting.{asymmetric}
 

@@ -1,8 +1,8 @@
 -- How high a red-black tree is, and how large the rank of a leftist heap.
-use Rattle.std.proofs.Common.{◌≡◌, ℕ, suc, ◌+◌, ◌*◌, ◌^◌, ◌<◌, ◌≤◌, min, max, Bool, true, false, cond, ltb, sym, refl, ap, ◌∙◌, subst, arith, ltb-true}
+use Rattle.std.proofs.Common.{◌≡◌, ℕ, suc, ◌+◌, ◌*◌, ◌^◌, ◌≤◌, Bool, true, false, cond, ltb, sym, refl, ap, ◌∙◌, subst, arith, ltb-true}
 use native.Mathlib.Nat.{two-pow-succ, pow-le-pow_right}
 use Rattle.trees.specs.Trees.{Tree, leaf, node, height, size}
-use Rattle.trees.specs.RedBlack.{red, RedBlack, black_height, Balanced}
+use Rattle.trees.specs.RedBlack.{red, black_height, Balanced}
 use Rattle.trees.specs.Leftist.{rank, Leftist}
 use Rattle.trees.specs.Theorems.{MapIsLow, HeapIsLow}
 use Rattle.trees.proofs.Rules.{to_balanced}

@@ -1,6 +1,6 @@
 -- Insertion keeps the rules of a red-black tree, and makes of its list what it should.
-use Rattle.std.proofs.Common.{◌≡◌, ℕ, suc, ◌+◌, Bool, true, false, cond, not, ◌&&◌, ◌||◌, eqb, List, [], ◌∷◌, sym, refl, ap, ◌∙◌, arith}
-use Rattle.trees.specs.Trees.{Entry, entry, Tree, leaf, node, child, with_child, with_mark, node_on, rotated, entries_onto, sum_over, occurrences}
+use Rattle.std.proofs.Common.{◌≡◌, ℕ, ◌+◌, Bool, true, false, cond, List, [], ◌∷◌, sym, refl, arith}
+use Rattle.trees.specs.Trees.{Entry, entry, Tree, leaf, node, with_mark, node_on, entries_onto, sum_over, occurrences}
 use Rattle.trees.specs.Lists.{KeyOrder, AllAfter, Sorted, list_put}
 use Rattle.trees.specs.RedBlack.{red, black_height, Balanced, AlmostBalanced, holds, replaced, insert_fixed, inserted}
 use Rattle.trees.proofs.Sorting.{AllBefore, asymmetric, after_earlier, sorted_rest, before_later, before_not_earlier, before_next}

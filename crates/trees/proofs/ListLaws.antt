@@ -1,9 +1,9 @@
 -- Put, drop and get on sorted lists.
-use Rattle.std.proofs.Common.{◌≡◌, ℕ, Bool, true, false, cond, not, ◌&&◌, List, [], ◌∷◌, Some, None, Option, sym, refl, ap, ◌∙◌, arith}
-use Rattle.trees.specs.Trees.{Entry, entry}
+use Rattle.std.proofs.Common.{◌≡◌, ℕ, Bool, true, false, cond, List, [], ◌∷◌, Some, None, sym, refl, ap, ◌∙◌, arith}
+use Rattle.trees.specs.Trees.{Entry}
 use Rattle.trees.specs.Lists.{KeyOrder, AllAfter, Sorted, list_put, list_drop, list_get}
 use Rattle.trees.specs.Leftist.{same_key}
-use Rattle.trees.specs.Theorems.{ListLaws, ListLawsHold}
+use Rattle.trees.specs.Theorems.{ListLawsHold}
 use Rattle.trees.proofs.Sorting.{asymmetric, after_earlier, after_not_later}
 
 module _ {K : Type 0} {before : K → K → Bool} (o : KeyOrder before) (k : K) where

@@ -1,10 +1,10 @@
 -- Put and drop on a map's tree.
-use Rattle.std.proofs.Common.{◌≡◌, ℕ, ◌+◌, Bool, true, false, cond, eqb, List, [], is_some, Some, None, Option, sym, refl, ap, ◌∙◌, subst, arith}
-use Rattle.trees.specs.Trees.{Entry, entry, Tree, leaf, node, with_mark, entries, entries_onto, occurrences}
-use Rattle.trees.specs.Lists.{KeyOrder, Sorted, list_put, list_drop, list_get}
-use Rattle.trees.specs.RedBlack.{red, RedBlack, Balanced, holds, replaced, inserted}
-use Rattle.trees.specs.Removal.{removed, removed_serial}
-use Rattle.trees.specs.Theorems.{MapTree, put_tree, drop_tree, PutInto, DroppedFrom, PutSets, DropRemoves, TreeAnswers}
+use Rattle.std.proofs.Common.{◌≡◌, ℕ, Bool, true, false, cond, eqb, List, [], is_some, Some, None, Option, sym, refl, ◌∙◌, subst, arith}
+use Rattle.trees.specs.Trees.{Entry, Tree, leaf, node, with_mark, entries, entries_onto, occurrences}
+use Rattle.trees.specs.Lists.{Sorted, list_put, list_drop, list_get}
+use Rattle.trees.specs.RedBlack.{red, Balanced, holds, replaced, inserted}
+use Rattle.trees.specs.Removal.{removed}
+use Rattle.trees.specs.Theorems.{put_tree, drop_tree, PutInto, DroppedFrom, PutSets, DropRemoves, TreeAnswers}
 use Rattle.trees.proofs.ListLaws.{put_sorted_lem, drop_sorted_lem, drop_absent}
 use Rattle.trees.proofs.Insertion.{grows, black_balanced, replaced_balanced, inserted_sum, replaced_occurrences, inserted_list, replaced_list}
 use Rattle.trees.proofs.Removals.{removed_shrinks}

@@ -1,6 +1,6 @@
 -- Removal keeps the rules of a red-black tree, its list and its nodes, but for what is removed.
-use Rattle.std.proofs.Common.{◌≡◌, ℕ, suc, ◌+◌, Bool, true, false, cond, not, ◌&&◌, ◌||◌, eqb, List, [], ◌∷◌, sym, refl, ap, ◌∙◌, arith}
-use Rattle.trees.specs.Trees.{Entry, Tree, leaf, node, is_node, child, with_child, with_mark, node_on, rotated, entries_onto, occurrences}
+use Rattle.std.proofs.Common.{◌≡◌, ℕ, suc, ◌+◌, Bool, true, false, cond, ◌&&◌, eqb, List, ◌∷◌, refl, ◌∙◌, arith}
+use Rattle.trees.specs.Trees.{Entry, Tree, leaf, node, is_node, with_child, node_on, entries_onto, occurrences}
 use Rattle.trees.specs.RedBlack.{red, black_height, Balanced}
 use Rattle.trees.specs.Removal.{Shrunk, Shrinks, sibling_fixed, short_fixed, spliced, step_up, without_first, first_entry, first_serial, without_root, removed}
 use Rattle.trees.proofs.Insertion.{by_test}

@@ -1,9 +1,9 @@
 -- The list and the nodes of a tree without a key, and whether a key is there.
-use Rattle.std.proofs.Common.{◌≡◌, ℕ, ◌+◌, Bool, true, false, cond, eqb, List, [], ◌∷◌, is_some, Some, None, Option, sym, refl, ap, ◌∙◌, arith}
+use Rattle.std.proofs.Common.{◌≡◌, ℕ, ◌+◌, Bool, true, false, cond, eqb, List, ◌∷◌, is_some, sym, refl, ap, arith}
 use Rattle.trees.specs.Trees.{Entry, Tree, leaf, node, entries_onto, occurrences}
 use Rattle.trees.specs.Lists.{KeyOrder, AllAfter, Sorted, list_drop, list_get}
 use Rattle.trees.specs.RedBlack.{holds}
-use Rattle.trees.specs.Removal.{Shrunk, removed, removed_serial}
+use Rattle.trees.specs.Removal.{removed, removed_serial}
 use Rattle.trees.proofs.Sorting.{AllBefore, asymmetric, after_earlier, sorted_rest, before_later, before_not_earlier, before_next}
 use Rattle.trees.proofs.ListLaws.{get_none}
 use Rattle.trees.proofs.Removals.{step_list, root_list, step_occurrences, root_occurrences}

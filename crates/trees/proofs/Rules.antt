@@ -1,6 +1,6 @@
 -- The rules of red-black trees as they are stated, and as proofs carry them, say the same.
-use Rattle.std.proofs.Common.{◌≡◌, ℕ, zero, suc, ◌+◌, Bool, true, false, cond, ◌&&◌, sym, refl, ap, ◌∙◌, arith}
-use Rattle.trees.specs.Trees.{Entry, Tree, leaf, node}
+use Rattle.std.proofs.Common.{◌≡◌, ℕ, zero, suc, ◌+◌, Bool, true, false, cond, sym, refl, ◌∙◌, arith}
+use Rattle.trees.specs.Trees.{Tree, leaf, node}
 use Rattle.trees.specs.RedBlack.{red, blacks_on, NoRedPair, RedBlack, black_height, Balanced}
 use Rattle.trees.specs.Theorems.{RulesAreBalanced}
 

@@ -1,5 +1,5 @@
 -- Sorted lists, and trees whose list is sorted: what stands before and behind a key.
-use Rattle.std.proofs.Common.{◌≡◌, ℕ, Bool, true, false, cond, List, [], ◌∷◌, sym, refl, ◌∙◌, arith}
+use Rattle.std.proofs.Common.{◌≡◌, Bool, true, false, List, [], ◌∷◌, sym, refl, ◌∙◌}
 use Rattle.trees.specs.Trees.{Entry, Tree, leaf, node, entries_onto}
 use Rattle.trees.specs.Lists.{KeyOrder, AllAfter, Sorted}
 

@@ -9,7 +9,7 @@
 --   same_key        two keys of which neither goes before the other
 --   waiting         how often a key waits in a heap
 --   NoneBefore      no key of a heap goes before a key
-use Rattle.std.specs.Prelude.{◌≡◌, ℕ, zero, suc, ◌+◌, ◌≤◌, min, Bool, true, false, cond, not, ◌&&◌, nat_le}
+use Rattle.std.specs.Prelude.{◌≡◌, ℕ, zero, suc, ◌≤◌, min, Bool, false, cond, not, ◌&&◌, nat_le}
 use Rattle.trees.specs.Trees.{Entry, Tree, leaf, node, sum_over}
 
 module _ {K : Type 0} where

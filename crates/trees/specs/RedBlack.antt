@@ -12,7 +12,7 @@
 --   insert_fixed     a tree whose child on a side may be a red node with a red child, put right
 --   inserted         the tree with a new entry
 use Rattle.std.specs.Prelude.{◌≡◌, ℕ, suc, ◌+◌, Bool, true, false, cond, not, ◌&&◌, ◌||◌}
-use Rattle.trees.specs.Trees.{Entry, entry, Tree, leaf, node, child, with_child, with_mark, rotated}
+use Rattle.trees.specs.Trees.{entry, Tree, leaf, node, child, with_child, with_mark, rotated}
 
 module _ {K : Type 0} where
   abbrev pub red : Tree Bool K → Bool

@@ -11,7 +11,7 @@
 --   MergeJoins               merge keeps both heaps' jobs, each as often as it waits there
 --   PushAdds, PopTakes       push adds its job; pop takes a first one
 --   MapIsLow, HeapIsLow      a map of at most 4,096 nodes is at most 24 high; such a heap's rank is at most 12
-use Rattle.std.specs.Prelude.{◌≡◌, ℕ, suc, ◌+◌, ◌≤◌, Bool, true, false, cond, List, [], ◌∷◌, is_some, Some, None, Option, ◌==◌}
+use Rattle.std.specs.Prelude.{◌≡◌, ℕ, ◌+◌, ◌≤◌, Bool, false, cond, List, is_some, Some, None, ◌==◌}
 use Rattle.trees.specs.Trees.{Entry, entry, Tree, leaf, node, with_mark, entries, height, sum_over, size, occurrences}
 use Rattle.trees.specs.Lists.{KeyOrder, Sorted, list_put, list_drop, list_get}
 use Rattle.trees.specs.RedBlack.{red, RedBlack, Balanced, holds, replaced, inserted}

@@ -16,7 +16,7 @@
 --   size           the number of nodes
 --   occurrences    how often a serial number stands in the tree
 --   Distinct       no serial number stands twice
-use Rattle.std.specs.Prelude.{◌≡◌, ℕ, suc, ◌+◌, ◌≤◌, max, Bool, true, false, cond, not, List, [], ◌∷◌, Some, None, Option, ◌==◌}
+use Rattle.std.specs.Prelude.{ℕ, suc, ◌+◌, ◌≤◌, max, Bool, true, false, cond, not, List, [], ◌∷◌, Some, None, Option, ◌==◌}
 
 -- a key, or a key's place in a book, with its value
 pub record Entry (K : Type 0) : Type 0 where

@@ -1,4 +1,4 @@
-use Rattle.memory.proofs.Rows.{step_ok, step_exit, last_call, run_ok, run_exit}
+use Rattle.memory.proofs.Rows.{step_ok, step_exit, run_ok, run_exit}
 use Rattle.map_steps.specs.Insert.{add_of}
 use Rattle.map_insert.proofs.add.Goals as goal
 

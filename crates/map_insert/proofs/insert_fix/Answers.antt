@@ -1,7 +1,7 @@
 use Rattle.std.proofs.Common.{refl}
-use Rattle.memory.proofs.Rows.{step_ok, step_exit, last_call, run_ok, run_exit}
+use Rattle.memory.proofs.Rows.{run_ok, run_exit}
 use Rattle.tree_calls.proofs.Branches.{on_true, on_false}
-use Rattle.map_insert.proofs.Insertions.{next, via_call, via_run}
+use Rattle.map_insert.proofs.Insertions.{next, via_run}
 use Rattle.map_steps.specs.Insert.{red_of, insert_fix_of}
 use Rattle.map_insert.specs.Levels.{red_child_of}
 use Rattle.map_insert.proofs.insert_fix.Goals as goal

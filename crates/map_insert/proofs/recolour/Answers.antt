@@ -1,5 +1,5 @@
-use Rattle.memory.proofs.Rows.{step_ok, step_exit, last_call, run_ok, run_exit}
-use Rattle.map_insert.proofs.Insertions.{next, via_call, via_run}
+use Rattle.memory.proofs.Rows.{run_ok, run_exit}
+use Rattle.map_insert.proofs.Insertions.{next, via_run}
 use Rattle.stored.specs.Writes.{renumber_of}
 use Rattle.map_steps.specs.Insert.{recolour_of}
 use Rattle.map_insert.proofs.recolour.Goals as goal

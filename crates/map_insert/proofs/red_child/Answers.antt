@@ -1,7 +1,7 @@
 use Rattle.std.proofs.Common.{suc, sym, refl, ◌∙◌}
-use Rattle.memory.proofs.Rows.{step_ok, step_exit, last_call, run_ok, run_exit}
+use Rattle.memory.proofs.Rows.{step_ok, step_exit, run_ok, run_exit}
 use Rattle.tree_calls.proofs.Branches.{on_true, on_false}
-use Rattle.map_insert.proofs.Insertions.{next, via_call, via_run}
+use Rattle.map_insert.proofs.Insertions.{next, via_call}
 use Rattle.memory.specs.Steps.{follow_of}
 use Rattle.map_insert.specs.Levels.{red_child_of}
 use Rattle.map_insert.proofs.red_child.Goals as goal

@@ -1,6 +1,6 @@
-use Rattle.memory.proofs.Rows.{step_ok, step_exit, last_call, run_ok, run_exit}
+use Rattle.memory.proofs.Rows.{step_ok, step_exit, run_ok, run_exit}
 use Rattle.tree_calls.proofs.Branches.{on_true, on_false}
-use Rattle.map_insert.proofs.Insertions.{next, via_call, via_run}
+use Rattle.map_insert.proofs.Insertions.{via_call}
 use Rattle.memory.specs.Steps.{follow_of}
 use Rattle.map_steps.specs.Insert.{red_pair_of}
 use Rattle.map_insert.proofs.red_pair.Goals as goal

@@ -1,6 +1,6 @@
 use Rattle.std.proofs.Common.{not}
-use Rattle.memory.proofs.Rows.{step_ok, step_exit, last_call, run_ok, run_exit}
-use Rattle.map_insert.proofs.Insertions.{next, via_call, via_run}
+use Rattle.memory.proofs.Rows.{run_ok, run_exit}
+use Rattle.map_insert.proofs.Insertions.{next, via_run}
 use Rattle.stored.specs.Writes.{relink_of, rotate_of}
 use Rattle.map_steps.specs.Insert.{straighten_of}
 use Rattle.map_insert.proofs.straighten.Goals as goal

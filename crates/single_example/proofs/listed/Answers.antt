@@ -1,4 +1,4 @@
-use Rattle.std.proofs.Common.{Some, vec_len, ap, ◌∙◌}
+use Rattle.std.proofs.Common.{Some, vec_len, ap}
 use Rattle.memory.specs.Memory.{fresh_single}
 use Rattle.single_example.proofs.Runs.{two_answer, made_two, not_refused, same_values}
 use Rattle.single_example.proofs.listed.Goals as goal

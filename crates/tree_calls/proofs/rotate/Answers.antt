@@ -1,5 +1,4 @@
 use Rattle.std.proofs.Common.{rules}
-use Rattle.memory.proofs.Rows.{step_ok, step_exit, last_call}
 use Rattle.tree_calls.proofs.Branches.{rotates}
 use Rattle.stored.specs.Writes.{rotate_of}
 use Rattle.tree_calls.proofs.rotate.Goals as goal

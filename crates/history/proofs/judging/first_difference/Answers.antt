@@ -1,5 +1,5 @@
 -- One more piece agrees.
-use Rattle.std.proofs.Common.{sym, arith}
+use Rattle.std.proofs.Common.{arith}
 use Rattle.history.specs.Prints.{found_in}
 use Rattle.history.proofs.Judgements.{agree_more}
 use Rattle.history.proofs.judging.first_difference.Goals as goal

@@ -1,5 +1,5 @@
 -- The first pair of the piece decides.
-use Rattle.std.proofs.Common.{◌≡◌, None, sym, ◌∙◌, arith, rules}
+use Rattle.std.proofs.Common.{◌≡◌, None, sym, ◌∙◌, arith}
 use Rattle.history.specs.Prints.{print_at}
 use Rattle.books.specs.Books.{book_keys}
 use Rattle.history.proofs.Fronts.{front_next, front_end, front_all}

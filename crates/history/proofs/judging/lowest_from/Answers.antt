@@ -1,5 +1,5 @@
 -- Each pair of a piece from the number on lowers what was the lowest so far, or leaves it.
-use Rattle.std.proofs.Common.{◌≡◌, ℕ, ◌+◌, min, List, take, Some, Option, unwrap_or, sym, ◌∙◌, subst, arith, rules}
+use Rattle.std.proofs.Common.{◌≡◌, ℕ, ◌+◌, min, List, take, Some, Option, unwrap_or, sym, subst, arith}
 use Rattle.history.specs.declared.record.NotedPiece.{NotedPiece}
 use Rattle.history.specs.Prints.{print_at}
 use Rattle.books.specs.Books.{book_keys}

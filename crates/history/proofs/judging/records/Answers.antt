@@ -1,5 +1,5 @@
 -- A key of the file means a piece of it; none among all keys means no piece.
-use Rattle.std.proofs.Common.{◌≡◌, sym, arith, rules}
+use Rattle.std.proofs.Common.{sym, arith, rules}
 use Rattle.history.specs.Prints.{print_at}
 use Rattle.books.specs.Books.{book_keys}
 use Rattle.history.specs.Same.{NoPiece}

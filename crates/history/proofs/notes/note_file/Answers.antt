@@ -1,5 +1,5 @@
 -- The room was looked at before the loop, so no push is refused.
-use Rattle.std.proofs.Common.{◌≡◌, ◌+◌, ◌<◌, ◌≤◌, Bool, cond, ◌++◌, length, get_or, Ok, Err, sym, ap, ◌∙◌, arith, rules}
+use Rattle.std.proofs.Common.{◌<◌, Bool, cond, ◌++◌, length, get_or, Ok, Err, sym, ap, ◌∙◌, arith}
 use Rattle.refusals.specs.declared.kinds.BookRefusal.TheVariants.{Full}
 use Rattle.books.specs.Books.{book_keys, book_room}
 use Rattle.history.specs.Files.{noted, file_pieces}

@@ -1,5 +1,5 @@
 -- The line is that of the word and the numbers behind it.
-use Rattle.std.proofs.Common.{◌≡◌, ℕ, List, vec_items, sym, ap, ◌∙◌}
+use Rattle.std.proofs.Common.{vec_items, sym, ap, ◌∙◌}
 use Rattle.std.specs.Option.{option_map}
 use Rattle.text.specs.Left.{left}
 use Rattle.memory_reading.specs.Words.{line_of, text_line}

@@ -1,4 +1,4 @@
-use Rattle.std.proofs.Common.{ℕ, ◌<◌, ◌≤◌, length, vec_items, ap, ◌∙◌, subst, arith, rules}
+use Rattle.std.proofs.Common.{◌<◌, ◌≤◌, length, vec_items, ap, ◌∙◌, subst, arith, rules}
 use Rattle.single.specs.Rows.{blank, names_at}
 use Rattle.single.specs.declared.node.Node.{Node as Row}
 use Rattle.single.proofs.Table.{any_default}

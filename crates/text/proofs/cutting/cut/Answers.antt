@@ -1,5 +1,5 @@
 -- The loop passes what is no separator.
-use Rattle.std.proofs.Common.{arith, rules}
+use Rattle.std.proofs.Common.{arith}
 use Rattle.text.proofs.Cuts.{cutting_start, cutting_more, cutting_word, cutting_rest, cutting_all}
 use Rattle.text.proofs.cutting.cut.Goals as goal
 

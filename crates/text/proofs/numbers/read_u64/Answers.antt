@@ -1,6 +1,6 @@
 -- The digits so far are read; what is left decides as the whole text does.
-use Rattle.std.proofs.Common.{◌≡◌, ℕ, ◌+◌, sym, ◌∙◌, subst, arith, rules}
-use Rattle.text.proofs.Reading.{Reading, reading_never, reading_more, reading_stops, reading_grows_over, reading_ends}
+use Rattle.std.proofs.Common.{ℕ, ◌+◌, sym, ◌∙◌, subst, arith, rules}
+use Rattle.text.proofs.Reading.{Reading, reading_more, reading_stops, reading_grows_over, reading_ends}
 use Rattle.text.proofs.numbers.read_u64.Goals as goal
 
 pub returns-then-not-is_ascii_digit : goal.returns-then-not-is_ascii_digit

@@ -1,4 +1,4 @@
-use Rattle.std.proofs.Common.{◌-◌, arith}
+use Rattle.std.proofs.Common.{arith}
 use Rattle.grouping.proofs.Loops.{numbering_none, numbering_in, numbering_more}
 use Rattle.two_level.proofs.runs.regroup.Goals as goal
 

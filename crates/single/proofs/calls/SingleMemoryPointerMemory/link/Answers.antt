@@ -1,9 +1,9 @@
-use Rattle.std.proofs.Common.{◌≡◌, ℕ, ◌<◌, ◌≤◌, true, false, length, get_or, set, None, vec_items, vec_len, sym, refl, ap, ◌∙◌, subst, arith, length-set, rules}
+use Rattle.std.proofs.Common.{◌≡◌, ◌<◌, true, false, length, get_or, None, vec_items, sym, refl, ap, ◌∙◌, arith, length-set, rules}
 use Rattle.memory.specs.Steps.{link_of}
 use Rattle.memory.proofs.Accepted.{link_done}
 use Rattle.memory.proofs.Refused.{link_spent, link_third}
-use Rattle.single.specs.Rows.{below, row_linked, raised, lowered, crowds}
-use Rattle.single.proofs.Table.{all_at, all_set, length_renamed, Fine, fine_set}
+use Rattle.single.specs.Rows.{row_linked, lowered, crowds}
+use Rattle.single.proofs.Table.{all_at, all_set, Fine, fine_set}
 use Rattle.single.proofs.Means.{untrue, fine, table_long, reg_below, in_table, raised_in, names_few, held_in, held_low, holds, holds_some, row_below, row_two, row_few, row_blank, free, spent, reg_crowds, reg_few, link_fine, link_rows_at, long_set, length_linked}
 use Rattle.single.proofs.calls.SingleMemoryPointerMemory.link.Goals as goal
 

@@ -1,4 +1,4 @@
-use Rattle.std.proofs.Common.{sym, refl, rules}
+use Rattle.std.proofs.Common.{sym, rules}
 use Rattle.memory.specs.Steps.{number_of}
 use Rattle.memory.proofs.Accepted.{number_done}
 use Rattle.single.proofs.Means.{untrue, held_in, holds}

@@ -1,8 +1,8 @@
-use Rattle.std.proofs.Common.{◌≡◌, ℕ, ◌<◌, ◌≤◌, true, false, length, get_or, set, None, vec_items, vec_len, sym, refl, ap, ◌∙◌, subst, arith, length-set, rules}
+use Rattle.std.proofs.Common.{◌≡◌, ◌<◌, true, false, length, get_or, None, vec_items, sym, refl, ap, ◌∙◌, subst, arith, rules}
 use Rattle.memory.specs.Steps.{save_of}
 use Rattle.memory.proofs.Accepted.{save_done}
 use Rattle.memory.proofs.Refused.{save_spent, save_third}
-use Rattle.single.specs.Rows.{raised, lowered, crowds}
+use Rattle.single.specs.Rows.{lowered, crowds}
 use Rattle.single.proofs.Table.{all_set, array_set, length_renamed, Fine, fine_renamed}
 use Rattle.single.proofs.Means.{untrue, fine, table_long, reg_below, root_below, in_table, raised_in, names_few, free, spent, reg_crowds, reg_few, save_rows}
 use Rattle.single.proofs.calls.SingleMemoryPointerMemory.save.Goals as goal

@@ -1,4 +1,4 @@
-use Rattle.std.proofs.Common.{ℕ, List, vec_items, sym, ◌∙◌, subst}
+use Rattle.std.proofs.Common.{ℕ, List, vec_items, sym, subst}
 use Rattle.text.specs.Left.{left}
 use Rattle.text.proofs.Sofar.{Sofar, sofar_more}
 use Rattle.text.proofs.split.Parts.numbers.Goals as goal
