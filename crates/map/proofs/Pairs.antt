@@ -1,5 +1,5 @@
 -- The first entry above a key, as a pair.
-use Rattle.std.proofs.Common.{◌≡◌, ℕ, Bool, Some, None, Option, sym, refl, ◌∙◌}
+use Rattle.std.proofs.Common.{◌≡◌, ℕ, Some, None, Option, sym, refl, ◌∙◌}
 use Rattle.trees.specs.Trees.{Entry, entry}
 use Rattle.memory.specs.Memory.{Memory}
 use Rattle.memory.specs.Steps.{Done, done, no, then, load_of, key_of, number_of}

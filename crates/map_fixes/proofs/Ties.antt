@@ -1,9 +1,9 @@
 -- How a row of calls ties to its steps: numbers that the code has by another term, refusals out of range, branches.
-use Rattle.std.proofs.Common.{◌≡◌, ℕ, suc, ◌+◌, ◌≤◌, Bool, true, false, cond, not, ◌||◌, ◌⊎◌, Ok, Err, Result, refl, subst, inl, inr, add-one}
+use Rattle.std.proofs.Common.{◌≡◌, ℕ, suc, ◌≤◌, Bool, true, false, ◌||◌, ◌⊎◌, Err, Result, refl, subst, inl, inr}
 use Rattle.refusals.specs.declared.kinds.MemoryRefusal.{MemoryRefusal}
 use Rattle.refusals.specs.declared.kinds.MemoryRefusal.TheVariants.{OutOfRange}
 use Rattle.memory.specs.Memory.{Memory}
-use Rattle.memory.specs.Steps.{Done, done, no, then, follow_of}
+use Rattle.memory.specs.Steps.{Done, no, then, follow_of}
 use Rattle.memory.specs.Promises.{Comes, Does, Runs}
 use Rattle.memory.proofs.Numbers.{lt_false}
 use Rattle.stored.specs.Stored.{side}

@@ -1,5 +1,5 @@
 -- From the steps of the reading calls to what they answer.
-use Rattle.std.proofs.Common.{◌≡◌, ℕ, ◌<◌, ◌≤◌, Bool, true, false, cond, List, [], ◌∷◌, length, Some, None, Ok, Option, Result, sym, refl, ap, ◌∙◌, subst}
+use Rattle.std.proofs.Common.{◌≡◌, ℕ, ◌<◌, Bool, cond, List, [], ◌∷◌, length, Some, None, Ok, Option, Result, refl, ap, ◌∙◌}
 use mathlib.Core.Path.{subst⁻¹}
 use Rattle.refusals.specs.declared.kinds.MemoryRefusal.{MemoryRefusal}
 use Rattle.trees.specs.Trees.{Tree, Entry, entries}
@@ -10,7 +10,7 @@ use Rattle.memory.specs.Effects.{Ends}
 use Rattle.memory.specs.Promises.{Comes}
 use Rattle.memory.proofs.Rows.{comes_to_end}
 use Rattle.memory.proofs.By.{ends_then}
-use Rattle.stored.specs.Whole.{Stands, Untouched}
+use Rattle.stored.specs.Whole.{Stands}
 use Rattle.places.specs.Places.{key_at, place_first, beside_first, goes_left, way_from, KeyLaws, WaysTo}
 use Rattle.places.proofs.Orders.{places_ordered, places_alike, ways_to}
 use Rattle.map_steps.specs.Find.{get_of, next_of}
@@ -19,7 +19,7 @@ use Rattle.map_steps.proofs.Finds.{get_ends}
 use Rattle.map_steps.proofs.Nexts.{next_ends}
 use Rattle.map.specs.Next.{as_pair, next_pair_of}
 use Rattle.map.proofs.Pairs.{next_paired}
-use Rattle.map_reading.specs.Reading.{keyed, InBook, Told, GetsValue, GetsAbove}
+use Rattle.map_reading.specs.Reading.{keyed, InBook, GetsValue, GetsAbove}
 
 -- a list stays sorted under an order that compares the written places alike
 module _ (n : ℕ) (a b : ℕ → ℕ → Bool) (alike : (p q : ℕ) → p < n → q < n → b p q ≡ a p q) where

@@ -1,10 +1,10 @@
 -- One level of the ways down, refusals out of range, and the branches of the rows.
-use Rattle.std.proofs.Common.{◌≡◌, ℕ, zero, suc, ◌+◌, ◌-◌, ◌<◌, ◌≤◌, Bool, true, false, cond, Some, None, Ok, Err, Option, Result, sym, refl, ap, ◌∙◌, add-one, arith}
+use Rattle.std.proofs.Common.{◌≡◌, ℕ, suc, ◌+◌, ◌-◌, ◌<◌, ◌≤◌, Bool, Some, None, Option, Result, sym, refl, ap, ◌∙◌, add-one, arith}
 use mathlib.Core.Path.{subst⁻¹}
 use Rattle.refusals.specs.declared.kinds.MemoryRefusal.{MemoryRefusal}
 use Rattle.refusals.specs.declared.kinds.MemoryRefusal.TheVariants.{OutOfRange}
 use Rattle.memory.specs.Memory.{Memory}
-use Rattle.memory.specs.Steps.{Done, done, no, then, follow_of, nil_of, link_of}
+use Rattle.memory.specs.Steps.{Done, no, nil_of, link_of}
 use Rattle.memory.specs.Promises.{Comes}
 use Rattle.memory.proofs.Numbers.{lt_false}
 use Rattle.stored.specs.Writes.{blank_of}

@@ -1,7 +1,6 @@
 -- From the steps of the writing calls to what they leave.
-use Rattle.std.proofs.Common.{◌≡◌, ℕ, ◌<◌, ◌≤◌, Bool, true, false, cond, List, [], ◌∷◌, length, is_some, Some, None, Ok, Option, Result, sym, refl, ap, ◌∙◌, subst, arith}
+use Rattle.std.proofs.Common.{◌≡◌, ℕ, ◌<◌, Bool, true, false, cond, List, [], ◌∷◌, length, is_some, Some, None, Ok, Result, sym, refl, ap, ◌∙◌, arith}
 use mathlib.Core.Path.{subst⁻¹}
-use Rattle.std.specs.List.{slice_get}
 use Rattle.refusals.specs.declared.kinds.MemoryRefusal.{MemoryRefusal}
 use Rattle.trees.specs.Trees.{Tree, Entry, entry, entries}
 use Rattle.trees.specs.Lists.{list_get, list_put}
@@ -12,7 +11,7 @@ use Rattle.memory.specs.Memory.{Memory}
 use Rattle.memory.specs.Effects.{Ends}
 use Rattle.memory.specs.Promises.{Comes}
 use Rattle.memory.proofs.Rows.{comes_to_end}
-use Rattle.stored.specs.Whole.{Stands, Room, Untouched}
+use Rattle.stored.specs.Whole.{Stands, Untouched}
 use Rattle.places.specs.Places.{key_at, place_first, beside_first, goes_left, way_from, KeyLaws}
 use Rattle.places.proofs.Orders.{places_alike, ways_to, at_written}
 use Rattle.map_steps.specs.Find.{set_of}
@@ -22,7 +21,7 @@ use Rattle.map_steps.proofs.Adds.{add_ends}
 use Rattle.map_steps.proofs.Finds.{set_ends}
 use Rattle.map_reading.specs.Reading.{keyed, InBook}
 use Rattle.map_reading.proofs.Tells.{sorted_alike, get_keyed, at_end, stands, ordered, ways}
-use Rattle.map_writing.specs.Writing.{NewMap, Replaced, Added, ReplacesValue, AddsKey}
+use Rattle.map_writing.specs.Writing.{NewMap, ReplacesValue, AddsKey}
 
 false_true : {A : Type 0} → false ≡ true → A
 false_true h = let z : ◌≡◌ {A = ℕ} 0 1 = cc in absurd (omega arith)

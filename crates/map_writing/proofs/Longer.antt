@@ -1,11 +1,11 @@
 -- A longer book.
-use Rattle.std.proofs.Common.{◌≡◌, ℕ, zero, suc, ◌<◌, ◌≤◌, Bool, List, [], ◌∷◌, ◌++◌, length, refl, ap, ◌∙◌, arith}
-use Rattle.trees.specs.Trees.{Tree, Entry, entry, entries}
+use Rattle.std.proofs.Common.{◌≡◌, ℕ, zero, suc, ◌<◌, ◌≤◌, List, [], ◌∷◌, ◌++◌, length, refl, ap, ◌∙◌, arith}
+use Rattle.trees.specs.Trees.{Entry, entry, entries}
 use Rattle.places.specs.Places.{key_at, place_first}
 use Rattle.places.proofs.Orders.{places_alike}
 use Rattle.map_reading.specs.Reading.{keyed, InBook}
 use Rattle.map_reading.proofs.Tells.{sorted_alike}
-use Rattle.map_writing.specs.Growth.{Grown, BookGrows}
+use Rattle.map_writing.specs.Growth.{BookGrows}
 
 longer : {K : Type 0} (keys more : List K) → length keys ≤ length (keys ++ more)
 longer [] more = omega arith

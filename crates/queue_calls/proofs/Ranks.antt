@@ -4,7 +4,7 @@ use Rattle.std.proofs.Common.{◌≡◌, ℕ, suc, ◌+◌, ◌<◌, ◌≤◌, 
 use Rattle.std.proofs.lemmas.Bool.Decides.{nat_tests}
 use Rattle.refusals.specs.declared.kinds.MemoryRefusal.TheVariants.{OutOfRange}
 use Rattle.memory.specs.Memory.{Memory}
-use Rattle.memory.specs.Steps.{Done, done, no, then, check, follow_of}
+use Rattle.memory.specs.Steps.{Done, no, then, follow_of}
 use Rattle.memory.proofs.Numbers.{lt_true, lt_false}
 use Rattle.stored.specs.Writes.{relink_of, renumber_of}
 use Rattle.queue_steps.specs.Merge.{rank_of, next_rank_of, ranked_of, hang_of}

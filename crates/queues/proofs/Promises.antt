@@ -1,7 +1,7 @@
 -- The promises of the five calls, from their rows of steps and what those come to.
 use Rattle.std.proofs.Common.{◌≡◌, ℕ, Bool, List, Option, Result}
 use Rattle.refusals.specs.declared.kinds.MemoryRefusal.{MemoryRefusal}
-use Rattle.trees.specs.Trees.{Tree, leaf, node}
+use Rattle.trees.specs.Trees.{leaf, node}
 use Rattle.trees.specs.Lists.{KeyOrder}
 use Rattle.trees.proofs.Heaps.{push_adds, merge_joins}
 use Rattle.trees.proofs.Heaps.{pop_takes as taken}

@@ -1,5 +1,5 @@
 use Rattle.std.proofs.Common.{suc, ◌-◌, sym, refl, ◌∙◌, arith}
-use Rattle.memory.proofs.Rows.{step_ok, step_exit, last_call, run_ok, run_exit}
+use Rattle.memory.proofs.Rows.{step_ok, step_exit}
 use Rattle.tree_calls.proofs.Branches.{on_true, on_false}
 use Rattle.books.specs.Books.{book_keys}
 use Rattle.places.specs.Places.{way_from}

@@ -1,4 +1,4 @@
-use Rattle.memory.proofs.Rows.{step_ok, step_exit, last_call, run_ok, run_exit}
+use Rattle.memory.proofs.Rows.{step_ok, step_exit}
 use Rattle.map_steps.specs.Find.{lookup_of}
 use Rattle.map.proofs.lookup.Goals as goal
 

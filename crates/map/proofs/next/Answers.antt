@@ -1,5 +1,5 @@
-use Rattle.std.proofs.Common.{sym, refl, ◌∙◌}
-use Rattle.memory.proofs.Rows.{step_ok, step_exit, last_call, run_ok, run_exit}
+use Rattle.std.proofs.Common.{refl}
+use Rattle.memory.proofs.Rows.{step_ok, step_exit, run_ok, run_exit}
 use Rattle.map.proofs.Lookups.{not_found, found}
 use Rattle.map.specs.Next.{next_pair_of}
 use Rattle.map.proofs.Pairs.{next_paired}

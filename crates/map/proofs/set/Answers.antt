@@ -1,5 +1,5 @@
-use Rattle.std.proofs.Common.{sym, refl, ◌∙◌}
-use Rattle.memory.proofs.Rows.{step_ok, step_exit, last_call, run_ok, run_exit}
+use Rattle.std.proofs.Common.{refl}
+use Rattle.memory.proofs.Rows.{run_ok, run_exit}
 use Rattle.map.proofs.Lookups.{not_found, found}
 use Rattle.map_steps.specs.Find.{set_of}
 use Rattle.map.proofs.set.Goals as goal

@@ -1,4 +1,4 @@
-use Rattle.std.proofs.Common.{arith, rules}
+use Rattle.std.proofs.Common.{rules}
 use Rattle.memory.proofs.Numbers.{le_true}
 use Rattle.memory.proofs.Rows.{step_ok, run_ok, run_exit}
 use Rattle.tree_calls.proofs.Branches.{on_true, on_false}
