@@ -21,6 +21,10 @@ OTHERWISE = {"Idle-writes": "IdleWritesHold", "Ways-to": "WaysToHold", "List-law
 APART = {"getDrop", "nodeLimit", "changeLimit", "versionAt", "placeFirst"}
 
 
+def is_of_a_proof(path):
+    return "/proofs/" in path and os.path.basename(path) in FILES
+
+
 def own_files():
     for folder, dirs, names in os.walk("crates"):
         dirs[:] = sorted(d for d in dirs if d not in ("out", "data"))
@@ -64,7 +68,7 @@ def library_names(texts):
             own = m.group(1).startswith("Rattle.") and not m.group(1).startswith("Rattle.std")
             if not own or m.group(1).endswith((".Goals", ".Given", ".TheVariants")):
                 kept.update(n.strip().split(" as ")[0] for n in m.group(2).split(","))
-        if os.path.basename(path) in FILES:
+        if is_of_a_proof(path):
             kept.update(re.findall(r"goal\.([^\s(){};,]+)", text))
             kept.update(w for chain in re.findall(r"\b[cwl]((?:\.[^\s(){};,.]+)+)", text) for w in chain.split(".") if w != "well-begun")
     return kept
@@ -73,7 +77,7 @@ def library_names(texts):
 def declared_names(texts):
     found = set()
     for path, text in texts.items():
-        if path.endswith(".antt") and os.path.basename(path) not in FILES:
+        if path.endswith(".antt") and not is_of_a_proof(path):
             for line in text.split("\n"):
                 m = re.match(r"\s*(?:abbrev |unfoldable )?(?:pub )?(?:record |data )?([^\s(){}:;,]+) (?:[({].*)?: ", line)
                 if m and not line.strip().startswith("--"):
@@ -99,7 +103,7 @@ def main(argv):
                 continue
             for token in TOKEN.findall(line):
                 words.add(token)
-                if wants(token) and token not in kept and (token in declared or os.path.basename(path) not in FILES):
+                if wants(token) and token not in kept and (token in declared or not is_of_a_proof(path)):
                     renamed[token] = respelled(token)
     # a lemma that would have its function's name
     taken = {b for a, b in renamed.items() if "-" not in a} | {w for w in words if w not in renamed}

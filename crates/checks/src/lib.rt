@@ -9,7 +9,6 @@ mod tests {
     use keys::name::NameKey;
     use keys::piece::PieceKey;
     use refusals::Refusal;
-    use std::process::Abort;
     use std::test::Fail;
     use text::numbers::{read_i32, read_u32, read_u64};
     use text::split::Parts;
@@ -27,19 +26,32 @@ mod tests {
         }
     }
 
+    // Fails where a fact does not hold.
+    fn check(holds: bool, fact: &str) -> Result<(), Fail> {
+        if holds { Ok(()) } else { Err(Fail::new(fact)) }
+    }
+
     // A book with two places keeps two keys as they arrive, and refuses a third.
-    fn keeps_two<K: Key>(rt: &impl Abort, slots: &mut [K], a: K, b: K) -> Result<(), Fail> {
+    fn keeps_two<K: Key>(slots: &mut [K], a: K, b: K) -> Result<(), Fail> {
         let mut book = Book::new(slots);
-        assert!(rt; book.count() == 0 && book.room() == 2 && book.key(0).is_none());
-        assert_eq!(rt; book.push(b)?, 0);
-        assert_eq!(rt; book.push(a)?, 1);
+        check(
+            book.count() == 0 && book.room() == 2 && book.key(0).is_none(),
+            "a new book has two places and no key",
+        )?;
+        check(book.push(b)? == 0, "the first key is at place 0")?;
+        check(book.push(a)? == 1, "the second key is at place 1")?;
         match book.push(a) {
             Ok(_) => return Err(Fail::new("a third key was taken")),
-            Err(refusal) => assert_eq!(rt; refusal.number(), 13),
+            Err(refusal) => check(refusal.number() == 13, "a full book refuses with 13")?,
         }
-        assert!(rt; book.count() == 2 && book.key(2).is_none());
-        assert!(rt; holds(&book, 0, b) && holds(&book, 1, a));
-        Ok(())
+        check(
+            book.count() == 2 && book.key(2).is_none(),
+            "the book has two keys",
+        )?;
+        check(
+            holds(&book, 0, b) && holds(&book, 1, a),
+            "the keys are as they arrived",
+        )
     }
 
     #[test]
@@ -47,7 +59,7 @@ mod tests {
         let a = PieceKey { file: 5, piece: 9 };
         let b = PieceKey { file: 5, piece: 10 };
         assert!(rt; in_order(a, b) && in_order(b, PieceKey { file: 6, piece: 0 }));
-        keeps_two(&rt, &mut [a; 2], a, b)
+        keeps_two(&mut [a; 2], a, b)
     }
 
     #[test]
@@ -70,7 +82,7 @@ mod tests {
             number: 10,
         };
         assert!(rt; in_order(a, b) && in_order(most, a) && in_order(b, least));
-        keeps_two(&rt, &mut [a; 2], a, b)
+        keeps_two(&mut [a; 2], a, b)
     }
 
     #[test]
@@ -78,7 +90,7 @@ mod tests {
         let a = NameKey::new(b"ab")?;
         let b = NameKey::new(b"abc")?;
         assert!(rt; in_order(a, b) && in_order(b, NameKey::new(b"b")?));
-        keeps_two(&rt, &mut [a; 2], a, b)
+        keeps_two(&mut [a; 2], a, b)
     }
 
     // Whether the bytes are refused as a name.

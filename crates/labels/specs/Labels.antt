@@ -1,25 +1,25 @@
 -- The exact labels of a relabelled list: its items first to last, each with its label, and what a new item makes of them.
 --
 --   Entry, Entries   an item with its label; the items of a list with theirs
---   items_of          the items alone
+--   items_of         the items alone
 --   marked           items, each with the label that a function gives it
 --   top              one more than the largest label; it stands for the label behind the last item
---   label_of          the label of an item
---   head_label        the label of the first entry, or top
---   next_label        the label of the item right behind another, or top
+--   label_of         the label of an item
+--   head_label       the label of the first entry, or top
+--   next_label       the label of the item right behind another, or top
 --   placed           the entries with a new item, of a given label, right behind another
---   inRange          a label lies in a range
---   count_in          how many items of a range there are
---   base_of           the first label of an aligned range
+--   in_range         a label lies in a range
+--   count_in         how many items of a range there are
+--   base_of          the first label of an aligned range
 --   crowd            one more than the items of an aligned range
 --   widen, width     which aligned range is taken
 --   spread           the items of a range spread evenly over it
 --   relabelled       a new item, and the range around it spread
 --   inserted         a new item by the rule of the gap, else by a spread
---   entries_after     the entries after a call that answered with a new item's number or was refused
---   label_answer      the answer of `label`; refused 31
+--   entries_after    the entries after a call that answered with a new item's number or was refused
+--   label_answer     the answer of `label`; refused 31
 --   fresh            the entries of a new list
---   behind_zero       the entries once some items were put right behind item 0, one after the other
+--   behind_zero      the entries once some items were put right behind item 0, one after the other
 use Rattle.std.specs.Prelude.{ℕ, zero, suc, ◌+◌, ◌-◌, ◌*◌, ◌/◌, ◌^◌, Bool, cond, ◌&&◌, List, [], ◌∷◌, map, length, Ok, Err, Result, ◌==◌, nat_le, nat_lt}
 use Rattle.refusals.specs.declared.kinds.OrderRefusal.{OrderRefusal}
 use Rattle.refusals.specs.declared.kinds.OrderRefusal.TheVariants.{UnknownItem}

@@ -1,4 +1,4 @@
--- The steps of `insertFixOf` make `insertFixed` of the tree under their register.
+-- The steps of `insert_fix_of` make `insert_fixed` of the tree under their register.
 use Rattle.std.proofs.Common.{◌≡◌, ℕ, suc, ◌+◌, ◌<◌, ◌≤◌, Bool, true, false, cond, not, ◌&&◌, ◌||◌, sym, refl, ap, ◌∙◌, subst, arith}
 use Rattle.trees.specs.Trees.{Tree, is_node, root_of, child, with_child, with_mark, rotated, occurrences}
 use Rattle.trees.specs.RedBlack.{red, insert_fixed}
@@ -25,7 +25,7 @@ module _ {K : Type 0} where
   unfoldable pub fix_cost : Bool → Tree Bool K → Cost
   fix_cost s t = cond (red_pair s t) (cond (red (child (not s) t)) (cost 0 3 0) (cond (red (child (not s) (child s t))) (cost 5 2 0) (cost 2 2 0))) nothing
 
-  -- what `insertFixed` and its cost come to
+  -- what `insert_fixed` and its cost come to
   pub fixed_none : (s : Bool) (t : Tree Bool K) → red_pair s t ≡ false → (insert_fixed s t ≡ t) × (fix_cost s t ≡ nothing)
   unfolding insert_fixed fix_cost
   fixed_none s t h = (grind arith, grind arith)

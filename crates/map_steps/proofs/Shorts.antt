@@ -1,4 +1,4 @@
--- The steps of `shortFixOf` make `shortFixed` of the tree under their register.
+-- The steps of `short_fix_of` make `short_fixed` of the tree under their register.
 use Rattle.std.proofs.Common.{◌≡◌, ℕ, suc, ◌+◌, ◌<◌, ◌≤◌, Bool, true, false, cond, not, Some, None, sym, refl, ap, ◌∙◌, subst, arith}
 use Rattle.trees.specs.Trees.{Tree, is_node, root_of, child, with_child, with_mark, rotated, occurrences}
 use Rattle.trees.specs.RedBlack.{red}

@@ -1,4 +1,4 @@
--- The steps of `siblingFixOf` make `siblingFixed` of the tree under their register.
+-- The steps of `sibling_fix_of` make `sibling_fixed` of the tree under their register.
 use Rattle.std.proofs.Common.{◌≡◌, ℕ, ◌+◌, ◌<◌, ◌≤◌, Bool, true, false, cond, not, ◌||◌, sym, refl, ap, ◌∙◌, subst, subst₂, arith}
 use Rattle.trees.specs.Trees.{Tree, is_node, root_of, child, with_child, with_mark, rotated, occurrences}
 use Rattle.trees.specs.RedBlack.{red}

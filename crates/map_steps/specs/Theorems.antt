@@ -1,9 +1,9 @@
 -- What the map's rows of steps do to the whole working state.
 --
---   AddInserts    the steps of `addOf` put a new key into the map
---   DropRemoves   the steps of `dropOf` take a key out of the map
---   SetReplaces   the steps of `setOf` replace the value of a key that is there, and write nothing where it is not
---   GetAnswers    the steps of `getOf` answer a key's value
+--   AddInserts    the steps of `add_of` put a new key into the map
+--   DropRemoves   the steps of `drop_of` take a key out of the map
+--   SetReplaces   the steps of `set_of` replace the value of a key that is there, and write nothing where it is not
+--   GetAnswers    the steps of `get_of` answer a key's value
 --   NextAnswers   the steps of `next_of` answer the first entry above a key
 use Rattle.std.specs.Prelude.{◌≡◌, ℕ, ◌<◌, ◌≤◌, Bool, true, false, None}
 use Rattle.trees.specs.Trees.{Tree, entries}

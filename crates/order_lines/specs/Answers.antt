@@ -1,8 +1,8 @@
 -- What an order answers to a line, and what the line makes of its items.
 --
---   lineAnswer   the answer, by the items, the limit and the labels
---   itemsBy      the items after a line with that answer
---   Keeps        a fact that holds unless the answer is a new item
+--   line_answer   the answer, by the items, the limit and the labels
+--   items_by      the items after a line with that answer
+--   Keeps         a fact that holds unless the answer is a new item
 use Rattle.std.specs.Prelude.{ℕ, List, length, Ok, Err, Result}
 use Rattle.refusals.specs.declared.kinds.OrderRefusal.{OrderRefusal}
 use Rattle.order.specs.Items.{behind, after_answer, before_answer, successor_answer}
@@ -17,29 +17,29 @@ answered f (Ok x) = f x
 answered f (Err e) = Refused e
 
 -- the answer of an order with the items xs, the limit and the labels
-abbrev pub lineAnswer : List ℕ → ℕ → (ℕ → Result ℕ OrderRefusal) → OrderLine → OrderAnswer
-lineAnswer xs limit labels (After a) = answered (λ n. NewItem n) (after_answer xs limit a)
-lineAnswer xs limit labels (Before a b) = answered (λ t. IsBefore t) (before_answer xs a b)
-lineAnswer xs limit labels (Successor a) = answered (λ o. Next o) (successor_answer xs a)
-lineAnswer xs limit labels Count = Total (length xs)
-lineAnswer xs limit labels (Label a) = answered (λ l. LabelIs l) (labels a)
+abbrev pub line_answer : List ℕ → ℕ → (ℕ → Result ℕ OrderRefusal) → OrderLine → OrderAnswer
+line_answer xs limit labels (After a) = answered (λ n. NewItem n) (after_answer xs limit a)
+line_answer xs limit labels (Before a b) = answered (λ t. IsBefore t) (before_answer xs a b)
+line_answer xs limit labels (Successor a) = answered (λ o. Next o) (successor_answer xs a)
+line_answer xs limit labels Count = Total (length xs)
+line_answer xs limit labels (Label a) = answered (λ l. LabelIs l) (labels a)
 
 -- n right behind the item that the line names
-abbrev pub itemsWith : OrderLine → ℕ → List ℕ → List ℕ
-itemsWith (After a) n xs = behind xs a n
-itemsWith (Before a b) n xs = xs
-itemsWith (Successor a) n xs = xs
-itemsWith Count n xs = xs
-itemsWith (Label a) n xs = xs
+abbrev pub items_with : OrderLine → ℕ → List ℕ → List ℕ
+items_with (After a) n xs = behind xs a n
+items_with (Before a b) n xs = xs
+items_with (Successor a) n xs = xs
+items_with Count n xs = xs
+items_with (Label a) n xs = xs
 
 -- the items xs after a line with that answer
-abbrev pub itemsBy : OrderAnswer → OrderLine → List ℕ → List ℕ
-itemsBy (NewItem n) line xs = itemsWith line n xs
-itemsBy (IsBefore t) line xs = xs
-itemsBy (Next o) line xs = xs
-itemsBy (Total n) line xs = xs
-itemsBy (LabelIs l) line xs = xs
-itemsBy (Refused e) line xs = xs
+abbrev pub items_by : OrderAnswer → OrderLine → List ℕ → List ℕ
+items_by (NewItem n) line xs = items_with line n xs
+items_by (IsBefore t) line xs = xs
+items_by (Next o) line xs = xs
+items_by (Total n) line xs = xs
+items_by (LabelIs l) line xs = xs
+items_by (Refused e) line xs = xs
 
 -- the fact holds unless the answer is a new item
 abbrev pub Keeps : OrderAnswer → Type 0 → Type 0

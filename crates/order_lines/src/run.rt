@@ -1,6 +1,6 @@
 // Runs a line over an order.
 ghost use Rattle.std.specs.Prelude.{◌≡◌};
-ghost use Rattle.order_lines.specs.Answers.{lineAnswer, itemsBy, Keeps};
+ghost use Rattle.order_lines.specs.Answers.{line_answer, items_by, Keeps};
 
 use crate::line::{OrderAnswer, OrderLine};
 use labels::Labelled;
@@ -9,8 +9,8 @@ use refusals::kinds::OrderRefusal;
 
 // Asks the order what the line asks. Only a line that gives a new item changes the order.
 pub fn run_line<O: VersionOrder + Labelled>(order: &mut O, line: OrderLine) -> OrderAnswer
-    ensures answer { result ≡ lineAnswer (O.VersionOrder.items order.old) (O.VersionOrder.limit order.old) (O.Labelled.labels order.old) line }
-    ensures items { O.VersionOrder.items order.new ≡ itemsBy result line (O.VersionOrder.items order.old) }
+    ensures answer { result ≡ line_answer (O.VersionOrder.items order.old) (O.VersionOrder.limit order.old) (O.Labelled.labels order.old) line }
+    ensures items { O.VersionOrder.items order.new ≡ items_by result line (O.VersionOrder.items order.old) }
     ensures limit { O.VersionOrder.limit order.new ≡ O.VersionOrder.limit order.old }
     ensures same { Keeps result (order.new ≡ order.old) }
 {

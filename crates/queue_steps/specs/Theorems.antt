@@ -1,7 +1,7 @@
 -- What the queues' rows of steps do to the heaps under their registers, and to the whole working state.
 --
 --   Pair             two heaps that share no node, one under a register and one under register 39
---   MergeSteps       the steps of `mergeOf` leave the merged heap
+--   MergeSteps       the steps of `merge_of` leave the merged heap
 --   PushJoins        a job joins due, or held
 --   PopTakes         the first due job goes; an empty queue is answered, with nothing written
 --   TopAnswersHold   the key of the first due job is answered
