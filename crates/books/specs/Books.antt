@@ -5,6 +5,7 @@
 --   push_answer   the answer of `push`: the key's place; refused 13 where the book is full
 --   keys_after    the keys after a push
 --   Prefix        one list of keys begins another
+--   SameSlots     a book stays in its slots
 use Rattle.std.specs.Prelude.{◌≡◌, ℕ, cond, List, [], ◌∷◌, ◌++◌, length, take, Ok, Err, Result, nat_lt}
 use Rattle.refusals.specs.declared.kinds.BookRefusal.{BookRefusal}
 use Rattle.refusals.specs.declared.kinds.BookRefusal.TheVariants.{Full}
@@ -30,3 +31,8 @@ module _ {K : Type 0} where
   -- ks begins js: the keys of ks stand at their places in js
   abbrev pub Prefix : List K → List K → Type 0
   Prefix ks js = (more : List K) × (js ≡ ks ++ more)
+
+  -- the slice of before, lent by the same caller: as many places as it had
+  pub record SameSlots (old new : Book K) : Type 0 where
+    pub room : book_room new ≡ book_room old
+    pub lender : new.slots.ghost_name ≡ old.slots.ghost_name

@@ -1,7 +1,7 @@
 // The calls of a book.
 ghost use Rattle.std.specs.Prelude.{◌≡◌, [], length, OnErr};
 ghost use Rattle.std.specs.List.{slice_get};
-ghost use Rattle.books.specs.Books.{book_keys, book_room, push_answer, keys_after, Prefix};
+ghost use Rattle.books.specs.Books.{book_keys, book_room, push_answer, keys_after, Prefix, SameSlots};
 
 use crate::book::Book;
 use refusals::kinds::BookRefusal;
@@ -20,11 +20,11 @@ impl<'a, K: Copy> Book<'a, K> {
         ensures answer { result ≡ push_answer (book_keys self.old) (book_room self.old) }
         ensures keys { book_keys self.new ≡ keys_after (book_keys self.old) (book_room self.old) key }
         ensures front { Prefix (book_keys self.old) (book_keys self.new) }
-        ensures room { book_room self.new ≡ book_room self.old }
+        ensures slots { SameSlots self.old self.new }
         ensures refused { OnErr result (self.new ≡ self.old) }
-        ensures lender { self.new.slots.ghost_name ≡ self.old.slots.ghost_name }
     {
         let place = self.len;
+        // `get_mut` promises nothing of a slice from which it gives no place, and a refused push is to leave the book as it was.
         if place >= self.slots.len() {
             return Err(BookRefusal::Full);
         }
@@ -37,11 +37,13 @@ impl<'a, K: Copy> Book<'a, K> {
     pub fn key(&self, place: usize) -> Option<K>
         ensures { result ≡ slice_get (book_keys self.now) place }
     {
-        let slots: &[K] = self.slots;
-        if place < self.len {
-            Some(slots[place])
-        } else {
-            None
-        }
+        self.as_slice().get(place).copied()
+    }
+
+    // All keys, in the order of their arrival.
+    pub fn as_slice(&self) -> &[K]
+        ensures { result.now ≡ book_keys self.now }
+    {
+        &self.slots[..self.len]
     }
 }

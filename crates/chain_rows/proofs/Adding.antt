@@ -1,13 +1,11 @@
 -- A chain that comes in without entries, and a version that comes in.
-use Rattle.std.proofs.Common.{◌≡◌, ℕ, ◌+◌, ◌<◌, ◌≤◌, true, ltb, List, length, get_or, set, sym, ap, ◌∙◌, subst, inl, inr, arith}
+use Rattle.std.proofs.Common.{◌≡◌, ℕ, ◌+◌, ◌<◌, ◌≤◌, List, length, get_or, set, sym, ap, ◌∙◌, subst, inl, inr, arith}
 use Rattle.std.proofs.lemmas.List.{get_or-set_same, get_or-set_other}
 use Rattle.std.proofs.lemmas.Bool.{cases_eq}
 use Rattle.chain_rows.specs.declared.row.EntryRow.{EntryRow}
 use Rattle.chain_rows.specs.declared.row.Chain.{Chain}
 use Rattle.chain_rows.specs.Chains.{blank, node}
-use Rattle.slices.proofs.Serving.{both_true, lt_is}
-use Rattle.entries.specs.Entries.{both}
-use Rattle.chain_rows.specs.Sound.{Sound, chain_at, no_chain, tables_fit}
+use Rattle.chain_rows.specs.Sound.{Sound, chain_at, no_chain}
 
 module _ (cs : List Chain) (rows : List EntryRow) (made used k : ℕ) (S : Sound cs rows made used k) (lm : made < length cs) where
   pub add_new_lem : chain_at (set cs made no_chain) made ≡ no_chain
@@ -48,16 +46,3 @@ module _ (cs : List Chain) (rows : List EntryRow) (made used k : ℕ) (S : Sound
 pub open_sound : (cs : List Chain) (rows : List EntryRow) (made used k : ℕ) → Sound cs rows made used k → Sound cs rows made used (k + 1)
 open_sound cs rows made used k S =
     ((λ i li. ((S.0 i li).0, (λ a la. let q = (S.0 i li).1 a la in omega (arith, q)), (S.0 i li).2)), S.1, S.2)
-
--- a table without chains, and one with the first chain
-none_sound : (cs : List Chain) (rows : List EntryRow) (k : ℕ) → Sound cs rows 0 0 k
-none_sound cs rows k = ((λ i li. absurd (omega (arith, li))), (λ i j a b li lj la lb e. absurd (omega (arith, li))), (λ i li. absurd (omega (arith, li))))
-
-pub made_sound : (cs : List Chain) (rows : List EntryRow) → 0 < length cs → Sound (set cs 0 no_chain) rows 1 0 1
-made_sound cs rows l = add_sound cs rows 0 0 1 (none_sound cs rows 1) l
-
-pub fit_are : (n m : ℕ) → true ≡ tables_fit n m → (0 < n) × (n < 20482) × (m < 163841)
-fit_are n m h =
-    let a = both_true (ltb 0 n) (both (ltb n 20482) (ltb m 163841)) (sym h) in
-    let b = both_true (ltb n 20482) (ltb m 163841) a.1 in
-    (lt_is 0 n a.0, lt_is n 20482 b.0, lt_is m 163841 b.1)

@@ -4,7 +4,7 @@ use Rattle.std.proofs.lemmas.List.{get_or-set_same, get_or-set_other}
 use Rattle.std.proofs.lemmas.Bool.{cases_eq, cases_lt, ltb-false, ltb-true, leb-false, leb-true, lt-ltb, le-ltb, le-leb}
 use Rattle.chain_rows.specs.declared.row.EntryRow.{EntryRow}
 use Rattle.fields.specs.declared.kinds.Value.{Value}
-use Rattle.chain_rows.specs.Chains.{blank, entry_of, chain, node, Within}
+use Rattle.chain_rows.specs.Chains.{blank, entry_of, chain, node}
 use Rattle.chain_rows.specs.Skips.{Skipped}
 use Rattle.chain_rows.proofs.Nodes.{node_add}
 use Rattle.entries.specs.Entries.{Entry, AllFrom, Sorted, entries_before, entries_behind}
@@ -49,48 +49,45 @@ cut_rear pos rows h (suc n) (suc m) x l f s o =
     rw q (ap (chain rows (node rows (get_or rows h blank).next m)) (let z : suc n - suc m ≡ n - m = omega arith in z)
     ∙ cut_rear pos rows (get_or rows h blank).next n m x (omega (arith, l)) (λ a la. f (suc a) (omega (arith, la))) (λ z. s (omega (arith, z))) o.1)
 
-drop_within : (k : ℕ) (rows : List EntryRow) (h a n : ℕ) → Within k rows h (a + n) → Within k rows (node rows h a) n
-drop_within k rows h zero n w = subst (Within k rows h) (let z : zero + n ≡ n = omega arith in z) w
-drop_within k rows h (suc a) n w =
-    let w' : Within k rows h (suc (a + n)) = subst (Within k rows h) (let z : suc a + n ≡ suc (a + n) = omega arith in z) w in
-    drop_within k rows (get_or rows h blank).next a n w'.2
+-- two walks, one behind the other
+pub tail_is : (Yes No Yes' No' : ℕ → Type 0) (rows : List EntryRow) (from rest tail : Chain) → Skipped Yes No rows from rest → Skipped Yes' No' rows rest tail
+    → tail.head ≡ node rows from.head (from.len - tail.len)
+tail_is Yes No Yes' No' rows from rest tail A B =
+    let a = A.short in
+    let b = B.short in
+    let e : from.len - rest.len + (rest.len - tail.len) ≡ from.len - tail.len = omega (arith, a, b) in
+    B.reached ∙ (ap (λ (z : ℕ). node rows z (rest.len - tail.len)) A.reached ∙ (sym (node_add rows from.head (from.len - rest.len) (rest.len - tail.len)) ∙ ap (node rows from.head) e))
 
--- what is left of a chain may be walked
-pub rest_within : (k : ℕ) (rows : List EntryRow) (head len at left : ℕ) → left ≤ len → at ≡ node rows head (len - left) → Within k rows head len → Within k rows at left
-rest_within k rows head len at left l e w = subst (λ (z : ℕ). Within k rows z left) (sym e) (drop_within k rows head (len - left) left (subst (Within k rows head) (let z : len ≡ len - left + left = omega (arith, l) in z) w))
+-- one past the rows before x and one past those at x
+module _ (pos : ℕ → ℕ) (rows : List EntryRow) (x : ℕ) (from rest tail : Chain)
+    (A : Skipped (λ v. ltb (pos v) (pos x) ≡ true) (λ v. ltb (pos v) (pos x) ≡ false) rows from rest)
+    (B : Skipped (λ v. leb (pos v) (pos x) ≡ true) (λ v. leb (pos v) (pos x) ≡ false) rows rest tail) where
+  tail_here : tail.head ≡ node rows from.head (from.len - tail.len)
+  tail_here = tail_is _ _ _ _ rows from rest tail A B
 
--- two walks, one past the rows before x and one past those at x
-module _ (pos : ℕ → ℕ) (rows : List EntryRow) (head len x at left tail rest : ℕ) (A : Skipped pos rows head len x false at left) (B : Skipped pos rows at left x true tail rest) where
-  pub tail_is : tail ≡ node rows head (len - rest)
-  tail_is =
-      let a = A.short in
-      let b = B.short in
-      let e : len - left + (left - rest) ≡ len - rest = omega (arith, a, b) in
-      B.reached ∙ (ap (λ (z : ℕ). node rows z (left - rest)) A.reached ∙ (sym (node_add rows head (len - left) (left - rest)) ∙ ap (node rows head) e))
-
-  pub fronts : Sorted pos (chain rows head len) → chain rows head (len - left) ≡ entries_before pos (pos x) (chain rows head len)
+  pub fronts : Sorted pos (chain rows from.head from.len) → chain rows from.head (from.len - rest.len) ≡ entries_before pos (pos x) (chain rows from.head from.len)
   fronts o =
       let a = A.short in
-      cut_front pos rows head len (len - left) (pos x) (omega arith) A.front
+      cut_front pos rows from.head from.len (from.len - rest.len) (pos x) (omega arith) A.front
       (λ l. ap (λ (z : ℕ). ltb (pos (get_or rows z blank).version) (pos x)) (sym A.reached) ∙ A.stops (omega (arith, l, a))) o
 
-  pub rears : Sorted pos (chain rows head len) → chain rows tail rest ≡ entries_behind pos (pos x) (chain rows head len)
+  pub rears : Sorted pos (chain rows from.head from.len) → chain rows tail.head tail.len ≡ entries_behind pos (pos x) (chain rows from.head from.len)
   rears o =
       let a = A.short in
       let b = B.short in
-      let e : len - (len - rest) ≡ rest = omega (arith, a, b) in
-      ap (λ (z : ℕ). chain rows z rest) tail_is
-      ∙ (ap (chain rows (node rows head (len - rest))) (sym e)
-      ∙ cut_rear pos rows head len (len - rest) (pos x) (omega arith)
-      (λ k lk. elim (cases_lt k (len - left)) [
+      let e : from.len - (from.len - tail.len) ≡ tail.len = omega (arith, a, b) in
+      ap (λ (z : ℕ). chain rows z tail.len) tail_here
+      ∙ (ap (chain rows (node rows from.head (from.len - tail.len))) (sym e)
+      ∙ cut_rear pos rows from.head from.len (from.len - tail.len) (pos x) (omega arith)
+      (λ k lk. elim (cases_lt k (from.len - rest.len)) [
         | inl q ↦ le-leb _ _ (let z = ltb-true _ _ (A.front k q) in omega (arith, z))
         | inr q ↦
-            let d : k ≡ len - left + (k - (len - left)) = omega (arith, q) in
+            let d : k ≡ from.len - rest.len + (k - (from.len - rest.len)) = omega (arith, q) in
             ap (λ (z : ℕ). leb (pos (get_or rows z blank).version) (pos x))
-            (ap (node rows head) d ∙ (node_add rows head (len - left) (k - (len - left)) ∙ ap (λ (z : ℕ). node rows z (k - (len - left))) (sym A.reached)))
-            ∙ B.front (k - (len - left)) (omega (arith, q, lk, a, b))
+            (ap (node rows from.head) d ∙ (node_add rows from.head (from.len - rest.len) (k - (from.len - rest.len)) ∙ ap (λ (z : ℕ). node rows z (k - (from.len - rest.len))) (sym A.reached)))
+            ∙ B.front (k - (from.len - rest.len)) (omega (arith, q, lk, a, b))
       ])
-      (λ l. ap (λ (z : ℕ). leb (pos (get_or rows z blank).version) (pos x)) (sym tail_is) ∙ B.stops (omega (arith, l, a, b))) o)
+      (λ l. ap (λ (z : ℕ). leb (pos (get_or rows z blank).version) (pos x)) (sym tail_here) ∙ B.stops (omega (arith, l, a, b))) o)
 
 pub two_c : (cs : List Chain) (made c : ℕ) (back front : Chain) → c < made → made < length cs → chain_at (set (set cs made back) c front) c ≡ front
 two_c cs made c back front lc lm = let q = length-set cs made back in get_or-set_same (set cs made back) c front no_chain (omega (arith, lc, lm, q))

@@ -4,7 +4,7 @@ use Rattle.std.proofs.lemmas.List.{get_or-set_same, get_or-set_other}
 use Rattle.std.proofs.lemmas.Bool.{cases_eq}
 use Rattle.chain_rows.specs.declared.row.EntryRow.{EntryRow}
 use Rattle.fields.specs.declared.kinds.Value.{Value}
-use Rattle.chain_rows.specs.Chains.{blank, chain, node, Chained, Frame, Drawn}
+use Rattle.chain_rows.specs.Chains.{blank, chain, node, Chained, Grows}
 use Rattle.chain_rows.proofs.Nodes.{node_frame, chain_frame}
 use Rattle.chain_rows.proofs.Puts.{chain_length}
 use Rattle.entries.specs.Entries.{Entry}
@@ -26,9 +26,11 @@ clear_chained k u u' rows rows' h n l K C = (
   (λ a b la lb e. C.2 a b la lb (sym (K.nodes a la) ∙ (e ∙ K.nodes b lb))),
 )
 
-module _ (cs : List Chain) (rows rows' : List EntryRow) (made used k i more : ℕ) (row : Chain) (S : Sound cs rows made used k) (li : i < made) (lc : made ≤ length cs)
-    (fr : Frame used (chain_at cs i).head (chain_at cs i).len rows rows') (kept : Chained k (used + more) rows' row.head row.len)
-    (drawn : Drawn used rows (chain_at cs i).head (chain_at cs i).len rows' row.head row.len) (sz : row.len ≤ used + more) where
+module _ (cs : List Chain) (rows rows' : List EntryRow) (made used k i : ℕ) (row : Chain) (S : Sound cs rows made used k) (li : i < made) (lc : made ≤ length cs)
+    (G : Grows k used rows rows' (chain_at cs i) row) where
+  sz : row.len ≤ used + (row.len - (chain_at cs i).len)
+  sz = let q = S.2 i li in omega (arith, q)
+
   mine : chain_at (set cs i row) i ≡ row
   mine = get_or-set_same cs i row no_chain (omega (arith, li, lc))
 
@@ -37,7 +39,7 @@ module _ (cs : List Chain) (rows rows' : List EntryRow) (made used k i more : �
 
   clears : (j : ℕ) → j < made → (j ≡ i → ⊥) → Clear used rows rows' (chain_at cs j).head (chain_at cs j).len
   clears j lj n = clear used rows rows' (chain_at cs j).head (chain_at cs j).len
-      (λ a la. fr (node rows (chain_at cs j).head a) ((S.0 j lj).0 a la) (λ b lb e. n (sym (S.1 i j b a li lj lb la e))))
+      (λ a la. G.frame (node rows (chain_at cs j).head a) ((S.0 j lj).0 a la) (λ b lb e. n (sym (S.1 i j b a li lj lb la e))))
 
   pub put_other : (j : ℕ) → j < made → (j ≡ i → ⊥)
       → chain rows' (chain_at (set cs i row) j).head (chain_at (set cs i row) j).len ≡ chain rows (chain_at cs j).head (chain_at cs j).len
@@ -49,18 +51,18 @@ module _ (cs : List Chain) (rows rows' : List EntryRow) (made used k i more : �
   meet j a b lj n la lb e =
       let e' : node rows' row.head a ≡ node rows (chain_at cs j).head b = e ∙ (clears j lj n).nodes b lb in
       let lt = (S.0 j lj).0 b lb in
-      elim (drawn a la) [
+      elim (G.drawn a la) [
         | inl q ↦ omega (arith, q, e', lt)
         | inr d ↦ n (sym (S.1 i j d.0 b li lj d.1 lb (sym d.2 ∙ e')))
       ]
 
-  pub put_sound : Sound (set cs i row) rows' made (used + more) k
+  pub put_sound : Sound (set cs i row) rows' made (used + (row.len - (chain_at cs i).len)) k
   put_sound = (
     (λ j lj. elim (cases_eq j i) [
-      | inl e ↦ subst (λ (z : ℕ). Chained k (used + more) rows' (chain_at (set cs i row) z).head (chain_at (set cs i row) z).len) (sym e)
-          (subst (λ (z : Chain). Chained k (used + more) rows' z.head z.len) (sym mine) kept)
-      | inr n ↦ subst (λ (z : Chain). Chained k (used + more) rows' z.head z.len) (sym (other j n))
-          (clear_chained k used (used + more) rows rows' _ _ (omega arith) (clears j lj n) (S.0 j lj))
+      | inl e ↦ subst (λ (z : ℕ). Chained k (used + (row.len - (chain_at cs i).len)) rows' (chain_at (set cs i row) z).head (chain_at (set cs i row) z).len) (sym e)
+          (subst (λ (z : Chain). Chained k (used + (row.len - (chain_at cs i).len)) rows' z.head z.len) (sym mine) G.kept)
+      | inr n ↦ subst (λ (z : Chain). Chained k (used + (row.len - (chain_at cs i).len)) rows' z.head z.len) (sym (other j n))
+          (clear_chained k used (used + (row.len - (chain_at cs i).len)) rows rows' _ _ (omega arith) (clears j lj n) (S.0 j lj))
     ]),
     (λ p q a b lp lq la lb e. elim (cases_eq p i) [
       | inl ep ↦ elim (cases_eq q i) [
@@ -84,24 +86,24 @@ module _ (cs : List Chain) (rows rows' : List EntryRow) (made used k i more : �
       ]
     ]),
     (λ j lj. elim (cases_eq j i) [
-      | inl e ↦ subst (λ (z : Chain). z.len ≤ used + more) (sym (ap (chain_at (set cs i row)) e ∙ mine)) sz
-      | inr n ↦ subst (λ (z : Chain). z.len ≤ used + more) (sym (other j n)) (let q = S.2 j lj in omega (arith, q))
+      | inl e ↦ subst (λ (z : Chain). z.len ≤ used + (row.len - (chain_at cs i).len)) (sym (ap (chain_at (set cs i row)) e ∙ mine)) sz
+      | inr n ↦ subst (λ (z : Chain). z.len ≤ used + (row.len - (chain_at cs i).len)) (sym (other j n)) (let q = S.2 j lj in omega (arith, q))
     ]),
   )
 
 -- the chain i after a put, from what the walk promised of its row
-pub put_here : (F : List (Entry Value) → List (Entry Value)) (cs : List Chain) (rows rows' : List EntryRow) (i used L m : ℕ) (row new : Chain) → i < length cs
-    → row ≡ chain_at cs i → new.len ≡ row.len + m
+pub put_here : (F : List (Entry Value) → List (Entry Value)) (cs : List Chain) (rows rows' : List EntryRow) (i used L : ℕ) (row new : Chain) → i < length cs
+    → row ≡ chain_at cs i → row.len ≤ new.len
     → (used + (length (F (chain rows row.head row.len)) - row.len) ≤ L → chain rows' new.head new.len ≡ F (chain rows row.head row.len))
     → used + (length (F (chain rows (chain_at cs i).head (chain_at cs i).len)) - length (chain rows (chain_at cs i).head (chain_at cs i).len)) ≤ L
     → (chain rows' (chain_at (set cs i new) i).head (chain_at (set cs i new) i).len ≡ F (chain rows (chain_at cs i).head (chain_at cs i).len))
-    × (used + m + length (chain rows (chain_at cs i).head (chain_at cs i).len) ≡ used + length (F (chain rows (chain_at cs i).head (chain_at cs i).len)))
-put_here F cs rows rows' i used L m row new li e en puts =
+    × (used + (new.len - row.len) + length (chain rows (chain_at cs i).head (chain_at cs i).len) ≡ used + length (F (chain rows (chain_at cs i).head (chain_at cs i).len)))
+put_here F cs rows rows' i used L row new li e lg puts =
     subst
     (λ (r : Chain).
     used + (length (F (chain rows r.head r.len)) - length (chain rows r.head r.len)) ≤ L
     → (chain rows' (chain_at (set cs i new) i).head (chain_at (set cs i new) i).len ≡ F (chain rows r.head r.len))
-    × (used + m + length (chain rows r.head r.len) ≡ used + length (F (chain rows r.head r.len))))
+    × (used + (new.len - row.len) + length (chain rows r.head r.len) ≡ used + length (F (chain rows r.head r.len))))
     e
     (λ h.
     let a = chain_length rows row.head row.len in
@@ -109,4 +111,4 @@ put_here F cs rows rows' i used L m row new li e en puts =
     let s : chain_at (set cs i new) i ≡ new = get_or-set_same cs i new no_chain li in
     let b = ap (λ (es : List (Entry Value)). length es) p in
     let c = chain_length rows' new.head new.len in
-    (ap (λ (z : Chain). chain rows' z.head z.len) s ∙ p, omega (arith, a, b, c, en)))
+    (ap (λ (z : Chain). chain rows' z.head z.len) s ∙ p, omega (arith, a, b, c, lg)))

@@ -1,9 +1,9 @@
 -- What a put leaves of the table, whatever the order.
-use Rattle.std.proofs.Common.{◌≡◌, ℕ, suc, ◌+◌, ◌-◌, ◌<◌, ◌≤◌, ◌≢◌, List, length, get_or, set, sym, refl, ap, ◌∙◌, subst, inl, inr, add-zero, arith, length-set}
+use Rattle.std.proofs.Common.{◌≡◌, ℕ, suc, ◌+◌, ◌-◌, ◌<◌, ◌≤◌, ◌≢◌, List, length, get_or, set, sym, refl, ap, ◌∙◌, subst, inl, inr, arith, length-set}
 use Rattle.std.proofs.lemmas.List.{get_or-set_same, get_or-set_other}
 use Rattle.std.proofs.lemmas.Bool.{cases_eq}
 use Rattle.chain_rows.specs.declared.row.EntryRow.{EntryRow}
-use Rattle.chain_rows.specs.Chains.{blank, node, Chained, Frame, Drawn, relinked}
+use Rattle.chain_rows.specs.Chains.{blank, entry_of, node, Chained, Frame, Drawn, relinked}
 use Rattle.chain_rows.proofs.Nodes.{node_next, node_add, node_frame, Inserted, inserted_chained}
 
 next_set : (rows : List EntryRow) (at : ℕ) (new : EntryRow) (j : ℕ) → at < length rows → new.next ≡ (get_or rows at blank).next → (get_or (set rows at new) j blank).next ≡ (get_or rows j blank).next
@@ -20,21 +20,20 @@ version_set c rows at new j l v h =
       | inr q ↦ subst (λ (z : EntryRow). z.version < c) (sym (get_or-set_other rows at j new blank q)) h
     ]
 
-nodes_same : (rows : List EntryRow) (at : ℕ) (new : EntryRow) → at < length rows → new.next ≡ (get_or rows at blank).next → (h a : ℕ) → node (set rows at new) h a ≡ node rows h a
+pub nodes_same : (rows : List EntryRow) (at : ℕ) (new : EntryRow) → at < length rows → new.next ≡ (get_or rows at blank).next → (h a : ℕ) → node (set rows at new) h a ≡ node rows h a
 nodes_same rows at new l e h a = node_frame rows (set rows at new) h a (λ b _. next_set rows at new (node rows h b) l e)
 
 pub same_chained : (c u : ℕ) (rows : List EntryRow) (h n at : ℕ) (new : EntryRow) → at < length rows → new.next ≡ (get_or rows at blank).next → new.version < c → Chained c u rows h n
-    → Chained c (u + 0) (set rows at new) h (n + 0)
+    → Chained c u (set rows at new) h n
 same_chained c u rows h n at new l e v C =
-    let N = nodes_same rows at new l e h in
-    rw (add-zero u) (rw (add-zero n) (
+    let N = nodes_same rows at new l e h in (
       (λ a la. subst (λ (z : ℕ). z < u) (sym (N a)) (C.0 a la)),
       (λ a la. subst (λ (z : ℕ). (get_or (set rows at new) z blank).version < c) (sym (N a)) (version_set c rows at new (node rows h a) l v (C.1 a la))),
       (λ a b la lb q. C.2 a b la lb (sym (N a) ∙ (q ∙ N b))),
-    ))
+    )
 
-pub same_drawn : (u : ℕ) (rows : List EntryRow) (h n at : ℕ) (new : EntryRow) → at < length rows → new.next ≡ (get_or rows at blank).next → Drawn u rows h n (set rows at new) h (n + 0)
-same_drawn u rows h n at new l e a la = inr (a, omega (arith, la), nodes_same rows at new l e h a)
+pub same_drawn : (u : ℕ) (rows : List EntryRow) (h n at : ℕ) (new : EntryRow) → at < length rows → new.next ≡ (get_or rows at blank).next → Drawn u rows h n (set rows at new) h n
+same_drawn u rows h n at new l e a la = inr (a, la, nodes_same rows at new l e h a)
 
 pub same_frame : (u : ℕ) (rows : List EntryRow) (h n k at : ℕ) (new : EntryRow) → k < n → at ≡ node rows h k → Frame u h n rows (set rows at new)
 same_frame u rows h n k at new l e j lj off = let ne : j ≢ at = λ q. off k l (sym e ∙ sym q) in get_or-set_other rows at j new blank ne
@@ -126,6 +125,20 @@ module _ (c u k : ℕ) (rows : List EntryRow) (h n : ℕ) (new last : EntryRow) 
         let e2 : suc a ≡ suc (suc k) + (a - suc k) = omega (arith, ka) in
         ap (node (set (set rows u new) (node rows h k) (relinked last u)) h) e2 ∙ (rear (a - suc k) (omega (arith, e, la)) ∙ ap (node rows h) (sym e));
   }
+
+  pub behind_new : get_or (set (set rows u new) (node rows h k) (relinked last u)) u blank ≡ new
+  behind_new = at_new
+
+  -- the rows of the chain keep their entries
+  pub behind_entries : (a : ℕ) → a < n → entry_of (get_or (set (set rows u new) (node rows h k) (relinked last u)) (node rows h a) blank) ≡ entry_of (get_or rows (node rows h a) blank)
+  behind_entries a la =
+      let q = C.0 a la in
+      let p = pu in
+      elim (cases_eq a k) [
+        | inl e ↦ subst (λ (z : ℕ). entry_of (get_or (set (set rows u new) (node rows h k) (relinked last u)) (node rows h z) blank) ≡ entry_of (get_or rows (node rows h z) blank)) (sym e)
+            (ap entry_of at_prev ∙ ap entry_of (is ∙ get_or-set_other rows u (node rows h k) new blank (λ z. omega (arith, z, p))))
+        | inr e ↦ ap entry_of (stay (node rows h a) (λ z. omega (arith, z, q)) (λ z. e (C.2 a k la (omega (arith, lk)) z)))
+      ]
 
   pub behind_frame : Frame u h n rows (set (set rows u new) (node rows h k) (relinked last u))
   behind_frame j lj off = stay j (λ e. omega (arith, e, lj)) (λ e. off k (omega (arith, lk)) (sym e))

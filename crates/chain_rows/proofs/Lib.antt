@@ -1,11 +1,12 @@
 pub mod Nodes
+pub mod Lengths
 pub mod Walks
-pub mod Splices
 pub mod Finds
 pub mod Looking
 pub mod Skipping
-pub mod Puts
 pub mod Keeps
+pub mod Spelling
+pub mod Puts
 pub mod Stays
 pub mod Renaming
 pub mod Orders

@@ -1,40 +1,37 @@
--- Walks that look for an entry.
-use Rattle.std.proofs.Common.{◌≡◌, ℕ, suc, ◌-◌, ◌<◌, ◌≤◌, Bool, true, false, List, ◌∷◌, get_or, sym, refl, ap, ◌∙◌, arith}
-use Rattle.chain_rows.specs.declared.row.EntryRow.{EntryRow}
-use Rattle.fields.specs.declared.kinds.Value.{Value}
-use Rattle.entries.specs.Entries.{Entry, sets, has}
+-- Walks that read a field or look for an entry, over the entries of a chain.
+use Rattle.std.proofs.Common.{◌≡◌, ℕ, ◌<◌, Bool, eqb, zero, suc, ◌&&◌, Option, Some, None, List, [], ◌∷◌, length, refl, ap, ◌∙◌, inl, inr, arith}
+use Rattle.std.proofs.lemmas.Bool.{cases_eq}
+use Rattle.std.specs.List.{list_any, slice_get}
+use Rattle.std.specs.Option.{option_map, MatchOption}
 use Rattle.entries.specs.Counts.{version_at}
-use Rattle.chain_rows.specs.Chains.{entry_of, chain, Within}
-use Rattle.chain_rows.proofs.Walks.{chain_step}
+use Rattle.order.specs.Items.{member, known, position}
+use Rattle.chain_rows.specs.declared.row.EntryRow.{EntryRow}
+use Rattle.fields.specs.declared.kinds.Field.{Field}
+use Rattle.fields.specs.declared.kinds.Value.{Value}
+use Rattle.fields.specs.Fields.{field_number}
+use Rattle.entries.specs.Entries.{Entry, EachVersion, has}
+use Rattle.chain_rows.specs.Chains.{entry_of}
+use Rattle.chain_rows.proofs.Orders.{apart}
 
-pub has_here : (pos : ℕ → ℕ) (k : ℕ) (rows : List EntryRow) (at' left f v : ℕ) (row : EntryRow) (all : Bool) → Within k rows at' left → 0 < left → row ≡ get_or rows at' row
-    → row.version ≡ v → row.field ≡ f → has pos f (pos v) (chain rows at' left) ≡ all → true ≡ all
-has_here pos k rows at' left f v row all w some is ev ef i =
-    let b : sets pos f (pos v) (entry_of row) ≡ true = let q = ap pos ev in grind arith in
-    let s = chain_step k rows at' left row some w is in
-    let z : has pos f (pos v) (entry_of row ∷ chain rows row.next (left - 1)) ≡ true = rw b refl in
-    sym z ∙ (ap (has pos f (pos v)) (sym s) ∙ i)
+-- the test of an entry: it is one of the field f at the version v
+abbrev pub is_at : Field → ℕ → Entry Value → Bool
+is_at f v e = eqb e.version v && eqb e.field (field_number f)
 
-pub has_next : (pos : ℕ → ℕ) (k : ℕ) (rows : List EntryRow) (at' left f v : ℕ) (row : EntryRow) (all : Bool) → Within k rows at' left → 0 < left → row ≡ get_or rows at' row
-    → (pos row.version ≡ pos v → row.field ≡ f → ⊥) → has pos f (pos v) (chain rows at' left) ≡ all → has pos f (pos v) (chain rows row.next (left - 1)) ≡ all
-has_next pos k rows at' left f v row all w some is n i =
-    let b : sets pos f (pos v) (entry_of row) ≡ false = grind arith in
-    let s = chain_step k rows at' left row some w is in
-    let z : has pos f (pos v) (entry_of row ∷ chain rows row.next (left - 1)) ≡ has pos f (pos v) (chain rows row.next (left - 1)) = rw b refl in
-    sym z ∙ (ap (has pos f (pos v)) (sym s) ∙ i)
+-- among entries of known versions, one at the version is one at its position
+pub any_has : (xs : List ℕ) → ((a : ℕ) → member xs a ≡ known xs a) → (f : Field) (v : ℕ) → v < length xs → (es : List (Entry Value)) → EachVersion (λ a. a < length xs) es
+    → list_any (is_at f v) es ≡ has (position xs) (field_number f) (position xs v) es
+any_has xs n f v lv [] k = refl
+any_has xs n f v lv (e ∷ es) k =
+    let h = any_has xs n f v lv es k.1 in
+    elim (cases_eq e.version v) [
+      | inl q ↦ let p : position xs e.version ≡ position xs v = ap (position xs) q in grind arith
+      | inr q ↦ let p : position xs e.version ≡ position xs v → ⊥ = λ z. q (apart xs n e.version v k.0 lv z) in grind arith
+    ]
 
-pub has_none : (pos : ℕ → ℕ) (rows : List EntryRow) (at' left f v : ℕ) (all : Bool) → left ≤ 0 → has pos f (pos v) (chain rows at' left) ≡ all → false ≡ all
-has_none pos rows at' left f v all l i =
-    let z : left ≡ 0 = omega (arith, l) in
-    ap (λ (y : ℕ). has pos f (pos v) (chain rows at' y)) (sym z) ∙ i
-
-pub ver_here : (k : ℕ) (rows : List EntryRow) (at' left steps : ℕ) (row : EntryRow) → Within k rows at' left → 0 < left → steps ≤ 0 → row ≡ get_or rows at' row → row.version ≡ version_at (chain rows at' left) steps
-ver_here k rows at' left steps row w some z is =
-    let e : steps ≡ 0 = omega (arith, z) in
-    ap (λ (y : List (Entry Value)). version_at y 0) (sym (chain_step k rows at' left row some w is)) ∙ ap (version_at (chain rows at' left)) (sym e)
-
-pub ver_next : (k : ℕ) (rows : List EntryRow) (at' left steps : ℕ) (row : EntryRow) → Within k rows at' left → 0 < left → 0 < steps → row ≡ get_or rows at' row
-    → version_at (chain rows at' left) steps ≡ version_at (chain rows row.next (left - 1)) (steps - 1)
-ver_next k rows at' left steps row w some s is =
-    let e : steps ≡ suc (steps - 1) = omega (arith, s) in
-    ap (λ (y : List (Entry Value)). version_at y steps) (chain_step k rows at' left row some w is) ∙ ap (version_at (entry_of row ∷ chain rows row.next (left - 1))) e
+-- the entry number k is there, and a number that is the version of its row is its version
+pub nth_version : (es : List (Entry Value)) (k : ℕ) (r : Option EntryRow) (n : ℕ) (A : Type 0) (P : EntryRow → Type 0) → option_map entry_of r ≡ slice_get es k → k < length es
+    → MatchOption r A P → ((row : EntryRow) → P row → n ≡ row.version) → n ≡ version_at es k
+nth_version [] k r n A P e l m h = absurd (omega (arith, l))
+nth_version (x ∷ es) zero None n A P e l m h = cc
+nth_version (x ∷ es) zero (Some row) n A P e l m h = let q : entry_of row ≡ x = cc in h row m ∙ ap (λ (z : Entry Value). z.version) q
+nth_version (x ∷ es) (suc k) r n A P e l m h = nth_version es k r n A P e (omega (arith, l)) m h

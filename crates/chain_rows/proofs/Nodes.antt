@@ -4,7 +4,7 @@ use Rattle.std.proofs.lemmas.Bool.{cases_order}
 use Rattle.chain_rows.specs.declared.row.EntryRow.{EntryRow}
 use Rattle.fields.specs.declared.kinds.Value.{Value}
 use Rattle.entries.specs.Entries.{Entry}
-use Rattle.chain_rows.specs.Chains.{blank, entry_of, chain, Within, node, Below, Avoids, Once, Chained, Off, Shape, Drawn}
+use Rattle.chain_rows.specs.Chains.{blank, entry_of, chain, Within, node, Once, Chained, Shape, Drawn}
 
 pub node_next : (rows : List EntryRow) (h k : ℕ) → node rows h (suc k) ≡ (get_or rows (node rows h k) blank).next
 node_next rows h zero = refl
@@ -26,33 +26,11 @@ node_frame rows rows' h (suc n) s =
 pub node_shape : (rows rows' : List EntryRow) → Shape rows rows' → (h n : ℕ) → node rows' h n ≡ node rows h n
 node_shape rows rows' s h n = node_frame rows rows' h n (λ b l. (s (node rows h b)).0)
 
-pub within_of : (k : ℕ) (rows : List EntryRow) (h n : ℕ) → ((a : ℕ) → a < n → node rows h a < length rows) → ((a : ℕ) → a < n → (get_or rows (node rows h a) blank).version < k) → Within k rows h n
-within_of k rows h zero i v = tt
-within_of k rows h (suc n) i v =
-    (i 0 (omega arith), v 0 (omega arith), within_of k rows (get_or rows h blank).next n (λ a l. i (suc a) (omega (arith, l))) (λ a l. v (suc a) (omega (arith, l))))
-
 pub chained_within : (k u : ℕ) (rows : List EntryRow) (h n : ℕ) → Chained k u rows h n → u ≤ length rows → Within k rows h n
-chained_within k u rows h n C l = within_of k rows h n (λ a q. let z = C.0 a q in omega (arith, z, l)) C.1
-
-pub below_of : (m : ℕ) (rows : List EntryRow) (h n : ℕ) → ((a : ℕ) → a < n → node rows h a < m) → Below m rows h n
-below_of m rows h zero i = tt
-below_of m rows h (suc n) i = (i 0 (omega arith), below_of m rows (get_or rows h blank).next n (λ a l. i (suc a) (omega (arith, l))))
-
-pub avoids_of : (j : ℕ) (rows : List EntryRow) (h n : ℕ) → Off j rows h n → Avoids j rows h n
-avoids_of j rows h zero i = tt
-avoids_of j rows h (suc n) i = (i 0 (omega arith), avoids_of j rows (get_or rows h blank).next n (λ a l. i (suc a) (omega (arith, l))))
+chained_within k u rows h n C l = ((λ a q. let z = C.0 a q in omega (arith, z, l)), C.1)
 
 pub once_tail : (rows : List EntryRow) (h n : ℕ) → Once rows h (suc n) → Once rows (get_or rows h blank).next n
 once_tail rows h n o a b la lb e = let q : suc a ≡ suc b = o (suc a) (suc b) (omega (arith, la)) (omega (arith, lb)) e in omega (arith, q)
-
--- the first k rows are not the row k
-pub avoids_front : (rows : List EntryRow) (h n k : ℕ) → Once rows h n → k < n → Avoids (node rows h k) rows h k
-avoids_front rows h n k o l = avoids_of (node rows h k) rows h k (λ a la e. let q = o a k (omega (arith, la, l)) l e in omega (arith, q, la))
-
--- nor are those behind it
-pub avoids_rear : (rows : List EntryRow) (h k n : ℕ) → Once rows h (suc k + n) → Avoids (node rows h k) rows (node rows h (suc k)) n
-avoids_rear rows h k n o = avoids_of (node rows h k) rows (node rows h (suc k)) n
-    (λ a la e. let q = o (suc k + a) k (omega (arith, la)) (omega arith) (node_add rows h (suc k) a ∙ e) in omega (arith, q))
 
 -- a chain over rows that stay
 pub chain_frame : (rows rows' : List EntryRow) (h n : ℕ) → ((a : ℕ) → a < n → get_or rows' (node rows h a) blank ≡ get_or rows (node rows h a) blank) → chain rows' h n ≡ chain rows h n

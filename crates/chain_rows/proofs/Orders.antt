@@ -1,7 +1,6 @@
 -- What walks need of an order: its answers are about positions, and two known versions at one position are one.
-use Rattle.std.proofs.Common.{◌≡◌, ℕ, ◌<◌, Bool, ltb, List, length, Ok, Result, ap, ◌∙◌}
+use Rattle.std.proofs.Common.{◌≡◌, ℕ, ◌<◌, Bool, ltb, List, length, Ok, ap, ◌∙◌}
 use Rattle.std.proofs.lemmas.Bool.{lt-ltb}
-use Rattle.refusals.specs.declared.kinds.OrderRefusal.{OrderRefusal}
 use Rattle.order.specs.Items.{member, Distinct, known, position, before_answer}
 use Rattle.order.proofs.Positions.{position_apart, earlier_position}
 
@@ -14,10 +13,3 @@ answered xs d k a b la lb =
     let ka = lt-ltb a (length xs) la in
     let kb = lt-ltb b (length xs) lb in
     rw (ka, kb) (ap (λ (t : Bool). Ok t) (earlier_position xs a b d (k a ∙ ka) (k b ∙ kb)))
-
-ok_same : (a b : Bool) → ◌≡◌ {A = Result Bool OrderRefusal} (Ok a) (Ok b) → a ≡ b
-ok_same a b e = cc
-
-pub told : (xs : List ℕ) → Distinct xs → ((a : ℕ) → member xs a ≡ known xs a) → (a b : ℕ) → a < length xs → b < length xs → (t : Bool)
-    → Ok t ≡ before_answer xs a b → t ≡ ltb (position xs a) (position xs b)
-told xs d k a b la lb t e = ok_same t (ltb (position xs a) (position xs b)) (e ∙ answered xs d k a b la lb)

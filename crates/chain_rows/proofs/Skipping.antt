@@ -1,42 +1,60 @@
--- One turn of a walk that skips.
-use Rattle.std.proofs.Common.{◌≡◌, ℕ, suc, ◌-◌, ◌<◌, ◌≤◌, Bool, true, false, List, get_or, sym, ap, ◌∙◌, inl, inr, arith}
-use Rattle.std.proofs.lemmas.List.{get_or_read}
+-- One turn of a walk that skips the leading rows.
+use Rattle.std.proofs.Common.{◌≡◌, ℕ, suc, ◌+◌, ◌-◌, ◌<◌, ◌≤◌, List, length, get_or, sym, ap, ◌∙◌, subst, inl, inr, arith}
+use Rattle.std.proofs.lemmas.List.{get_or_default}
 use Rattle.std.proofs.lemmas.Bool.{cases_eq}
 use Rattle.chain_rows.specs.declared.row.EntryRow.{EntryRow}
-use Rattle.chain_rows.specs.Chains.{blank, node, Within}
-use Rattle.chain_rows.specs.Skips.{passed, Skipped}
-use Rattle.chain_rows.proofs.Nodes.{node_next}
-use Rattle.chain_rows.proofs.Walks.{within_at, within_step}
+use Rattle.chain_rows.specs.declared.row.Chain.{Chain}
+use Rattle.chain_rows.specs.Chains.{blank, node, Inside}
+use Rattle.chain_rows.specs.Skips.{Skipped}
+use Rattle.chain_rows.proofs.Nodes.{node_next, node_add}
 
-abbrev pub Goes : (ℕ → ℕ) → ℕ → List EntryRow → ℕ → ℕ → ℕ → Bool → ℕ → ℕ → Type 0
-Goes pos k rows head len x too at left =
-    (left ≤ len)
-    × (at ≡ node rows head (len - left))
-    × ((a : ℕ) → a < len - left → passed pos x too (get_or rows (node rows head a) blank).version ≡ true)
-    × Within k rows at left
+-- some rows have been passed, and rest is what is left
+pub record Passing (Yes : ℕ → Type 0) (rows : List EntryRow) (from rest : Chain) : Type 0 where
+  pub short : rest.len ≤ from.len
+  pub reached : rest.head ≡ node rows from.head (from.len - rest.len)
+  pub front : (a : ℕ) → a < from.len - rest.len → Yes (get_or rows (node rows from.head a) blank).version
 
-pub goes_more : (pos : ℕ → ℕ) (k : ℕ) (rows : List EntryRow) (head len x : ℕ) (too : Bool) (at left : ℕ) (row : EntryRow) → Goes pos k rows head len x too at left
-    → 0 < left → row ≡ get_or rows at row → passed pos x too row.version ≡ true → Goes pos k rows head len x too row.next (left - 1)
-goes_more pos k rows head len x too at left row G some is t =
-    let l = G.0 in
-    let e : len - (left - 1) ≡ suc (len - left) = omega (arith, l, some) in
-    let ri : row ≡ get_or rows at blank = get_or_read rows at row (within_at k rows at left some G.3) is blank in
-    let ra : row ≡ get_or rows (node rows head (len - left)) blank = ri ∙ ap (λ (z : ℕ). get_or rows z blank) G.1 in (
-      omega (arith, l),
-      ap (λ (z : EntryRow). z.next) ra ∙ (sym (node_next rows head (len - left)) ∙ ap (node rows head) (sym e)),
-      (λ a la. elim (cases_eq a (len - left)) [
-        | inl q ↦ ap (λ (z : ℕ). passed pos x too (get_or rows (node rows head z) blank).version) q ∙ (ap (λ (z : EntryRow). passed pos x too z.version) (sym ra) ∙ t)
-        | inr q ↦ G.2 a (omega (arith, la, e, q))
-      ]),
-      (within_step k rows at left row some G.3 is).1,
-    )
+module _ (Yes : ℕ → Type 0) (rows : List EntryRow) (from rest : Chain) (P : Passing Yes rows from rest) (I : Inside rows from.head from.len) where
+  pub passing_at : 0 < rest.len → rest.head < length rows
+  passing_at some =
+      let s = P.short in
+      subst (λ (z : ℕ). z < length rows) (sym P.reached) (I (from.len - rest.len) (omega (arith, s, some)))
 
-pub goes_stop : (pos : ℕ → ℕ) (k : ℕ) (rows : List EntryRow) (head len x : ℕ) (too : Bool) (at left : ℕ) (row : EntryRow) → Goes pos k rows head len x too at left
-    → 0 < left → row ≡ get_or rows at row → passed pos x too row.version ≡ false → Skipped pos rows head len x too at left
-goes_stop pos k rows head len x too at left row G some is t =
-    let ri : row ≡ get_or rows at blank = get_or_read rows at row (within_at k rows at left some G.3) is blank in
-    record { short = G.0; reached = G.1; front = G.2; stops = λ _. ap (λ (z : EntryRow). passed pos x too z.version) (sym ri) ∙ t }
+  module _ (d : EntryRow) (some : 0 < rest.len) where
+    row_is : get_or rows rest.head d ≡ get_or rows rest.head blank
+    row_is = get_or_default rows rest.head d blank (passing_at some)
 
-pub goes_end : (pos : ℕ → ℕ) (k : ℕ) (rows : List EntryRow) (head len x : ℕ) (too : Bool) (at left : ℕ) → Goes pos k rows head len x too at left
-    → (0 < left → ⊥) → Skipped pos rows head len x too at left
-goes_end pos k rows head len x too at left G n = record { short = G.0; reached = G.1; front = G.2; stops = λ h. absurd (n h) }
+    pub passing_more : Yes (get_or rows rest.head d).version → Passing Yes rows from (record { head = (get_or rows rest.head d).next; len = rest.len - 1 })
+    passing_more y =
+        let l = P.short in
+        let e : from.len - (rest.len - 1) ≡ suc (from.len - rest.len) = omega (arith, l, some) in
+        let ra : get_or rows rest.head d ≡ get_or rows (node rows from.head (from.len - rest.len)) blank = row_is ∙ ap (λ (z : ℕ). get_or rows z blank) P.reached in
+        record {
+          short = omega (arith, l);
+          reached = ap (λ (z : EntryRow). z.next) ra ∙ (sym (node_next rows from.head (from.len - rest.len)) ∙ ap (node rows from.head) (sym e));
+          front = λ a la. elim (cases_eq a (from.len - rest.len)) [
+            | inl q ↦ subst (λ (z : ℕ). Yes (get_or rows (node rows from.head z) blank).version) (sym q) (subst (λ (z : EntryRow). Yes z.version) ra y)
+            | inr q ↦ P.front a (omega (arith, la, e, q))
+          ];
+        }
+
+-- what holds of each row of a chain holds of each row that is left
+pub rest_each : (P Yes No : ℕ → Type 0) (rows : List EntryRow) (from rest : Chain) → Skipped Yes No rows from rest → ((a : ℕ) → a < from.len → P (node rows from.head a))
+    → (a : ℕ) → a < rest.len → P (node rows rest.head a)
+rest_each P Yes No rows from rest S h a l =
+    let s = S.short in
+    let e = ap (λ (z : ℕ). node rows z a) S.reached ∙ sym (node_add rows from.head (from.len - rest.len) a) in
+    subst P (sym e) (h (from.len - rest.len + a) (omega (arith, s, l)))
+
+-- the tests of a walk, in other words
+pub skipped_by : (Yes No Yes' No' : ℕ → Type 0) (k : ℕ) (rows : List EntryRow) (from rest : Chain)
+    → ((a : ℕ) → a < from.len → (get_or rows (node rows from.head a) blank).version < k) → Skipped Yes No rows from rest
+    → ((v : ℕ) → v < k → Yes v → Yes' v) → ((v : ℕ) → v < k → No v → No' v) → Skipped Yes' No' rows from rest
+skipped_by Yes No Yes' No' k rows from rest known S pass fail = record {
+  short = S.short;
+  reached = S.reached;
+  front = λ a l. pass _ (known a (omega (arith, l))) (S.front a l);
+  stops = λ some. fail _
+      (subst (λ (z : ℕ). (get_or rows z blank).version < k) (sym S.reached) (known (from.len - rest.len) (let s = S.short in omega (arith, s, some))))
+      (S.stops some);
+}

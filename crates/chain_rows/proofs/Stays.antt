@@ -1,65 +1,68 @@
 -- What a put leaves of the table, from where find came to.
-use Rattle.std.proofs.Common.{◌≡◌, ℕ, suc, ◌+◌, ◌-◌, ◌<◌, ◌≤◌, true, List, length, get_or, set, sym, ap, ◌∙◌, subst, arith, length-set}
-use Rattle.std.proofs.lemmas.List.{get_or_read}
+use Rattle.std.proofs.Common.{◌≡◌, ℕ, suc, ◌+◌, ◌-◌, ◌<◌, Some, None, List, length, get_or, set, sym, ap, ◌∙◌, subst, arith, length-set}
+use Rattle.std.proofs.lemmas.List.{get_or_default}
+use Rattle.chain_rows.specs.declared.row.Chain.{Chain}
 use Rattle.chain_rows.specs.declared.row.EntryRow.{EntryRow}
+use Rattle.chain_rows.specs.declared.row.Gap.{Gap}
+use Rattle.fields.specs.declared.kinds.Field.{Field}
 use Rattle.fields.specs.declared.kinds.Value.{Value}
-use Rattle.chain_rows.specs.declared.row.Spot.{Spot}
-use Rattle.chain_rows.specs.Chains.{blank, node, Chained, Frame, Drawn, relinked}
-use Rattle.chain_rows.specs.Spots.{Found}
-use Rattle.chain_rows.proofs.Nodes.{below_of, inserted_drawn}
-use Rattle.chain_rows.proofs.Puts.{found_at, found_prev}
+use Rattle.chain_rows.specs.Chains.{blank, node, Chained, Frame, Drawn, Grows, relinked}
+use Rattle.chain_rows.specs.Spots.{Replaces, Enters}
+use Rattle.chain_rows.proofs.Nodes.{inserted_drawn}
+use Rattle.chain_rows.proofs.Puts.{found_at, found_first, found_behind, found_prev}
 use Rattle.chain_rows.proofs.Keeps.{same_chained, same_drawn, same_frame, first_inserted, first_frame, first_chained, behind_inserted, behind_frame, behind_chained}
 
--- the table after a put: the frame, the chain, where its rows come from
-pub record Stays (k u : ℕ) (rows rows' : List EntryRow) (h n h' n' more : ℕ) : Type 0 where
-  pub frame : Frame u h n rows rows'
-  pub kept : Chained k (u + more) rows' h' n'
-  pub drawn : Drawn u rows h n rows' h' n'
+-- a chain of one row more
+one_longer : (k u : ℕ) (rows rows' : List EntryRow) (from : Chain) (h : ℕ) → Frame u from.head from.len rows rows' → Chained k (u + 1) rows' h (from.len + 1)
+    → Drawn u rows from.head from.len rows' h (from.len + 1) → Grows k u rows rows' from (record { head = h; len = from.len + 1 })
+one_longer k u rows rows' from h F C D = record {
+  longer = (omega arith, omega arith);
+  frame = F;
+  kept = subst (λ (z : ℕ). Chained k (u + z) rows' h (from.len + 1)) (let e : 1 ≡ from.len + 1 - from.len = omega arith in e) C;
+  drawn = D;
+}
 
-pub stays_same : (pos : ℕ → ℕ) (k : ℕ) (rows : List EntryRow) (head len f v u : ℕ) (s : Spot) (w : Value) (row : EntryRow) → Found pos k rows head len f v s
-    → s.same ≡ true → Chained k u rows head len → v < k → row ≡ get_or rows s.at row
-    → Stays k u rows (set rows s.at (record { version = v; field = f; value = w; next = row.next })) head len head (len + 0) 0
-stays_same pos k rows head len f v u s w row F t C lv is =
-    let l = found_at pos k rows head len f v s F t in
-    let e : row.next ≡ (get_or rows s.at blank).next = ap (λ (z : EntryRow). z.next) (get_or_read rows s.at row l is blank) in
-    let tot = F.passed.total in
-    let h = F.here t in
-    record {
-      frame = same_frame u rows head len s.steps s.at _ (omega (arith, tot, h)) F.passed.reached;
-      kept = same_chained k u rows head len s.at (record { version = v; field = f; value = w; next = row.next }) l e lv C;
-      drawn = same_drawn u rows head len s.at (record { version = v; field = f; value = w; next = row.next }) l e;
-    }
+module _ (pos : ℕ → ℕ) (k u : ℕ) (rows : List EntryRow) (from : Chain) (f : Field) (v : ℕ) (w : Value) (C : Chained k u rows from.head from.len) (lv : v < k) where
+  pub grows_same : (at : ℕ) (d : EntryRow) → Replaces pos k rows from.head from.len f v at
+      → Grows k u rows (set rows at (record { version = v; field = f; value = w; next = (get_or rows at d).next })) from from
+  grows_same at d R =
+      let l = found_at pos k rows from.head from.len f v at R in
+      let e : (get_or rows at d).next ≡ (get_or rows at blank).next = ap (λ (z : EntryRow). z.next) (get_or_default rows at d blank l) in
+      let tot = R.passed.total in
+      let h = R.here in record {
+        longer = (omega arith, omega arith);
+        frame = same_frame u rows from.head from.len R.steps at _ (omega (arith, tot, h)) R.passed.reached;
+        kept = subst (λ (z : ℕ). Chained k z (set rows at (record { version = v; field = f; value = w; next = (get_or rows at d).next })) from.head from.len)
+            (let e : u ≡ u + (from.len - from.len) = omega arith in e)
+            (same_chained k u rows from.head from.len at (record { version = v; field = f; value = w; next = (get_or rows at d).next }) l e lv C);
+        drawn = same_drawn u rows from.head from.len at (record { version = v; field = f; value = w; next = (get_or rows at d).next }) l e;
+      }
 
-pub stays_first : (pos : ℕ → ℕ) (k : ℕ) (rows : List EntryRow) (head len f v u : ℕ) (s : Spot) (w : Value) → Found pos k rows head len f v s
-    → s.steps ≡ 0 → Chained k u rows head len → v < k → u < length rows
-    → Stays k u rows (set rows u (record { version = v; field = f; value = w; next = s.at })) head len u (len + 1) 1
-stays_first pos k rows head len f v u s w F z C lv lu =
-    let e : s.at ≡ head = F.passed.reached ∙ ap (node rows head) z in
-    record {
-      frame = first_frame u rows head len (record { version = v; field = f; value = w; next = s.at });
-      kept = first_chained k u rows head len (record { version = v; field = f; value = w; next = s.at }) lu e lv C;
-      drawn = inserted_drawn u 0 rows head len _ u (first_inserted u rows head len (record { version = v; field = f; value = w; next = s.at }) lu e C.0);
-    }
+  module _ (gap : Gap) (E : Enters pos k rows from.head from.len f v gap) (lu : u < length rows) where
+    pub grows_first : gap.prev ≡ None
+        → Grows k u rows (set rows u (record { version = v; field = f; value = w; next = gap.next })) from (record { head = u; len = from.len + 1 })
+    grows_first n =
+        let e = (found_first pos k rows from.head from.len f v gap w E n).1 in
+        let new : EntryRow = record { version = v; field = f; value = w; next = gap.next } in
+        one_longer k u rows _ from u
+        (first_frame u rows from.head from.len new)
+        (first_chained k u rows from.head from.len new lu e lv C)
+        (inserted_drawn u 0 rows from.head from.len _ u (first_inserted u rows from.head from.len new lu e C.0))
 
-pub stays_behind : (pos : ℕ → ℕ) (k : ℕ) (rows : List EntryRow) (head len f v u : ℕ) (s : Spot) (w : Value) (last : EntryRow) → Found pos k rows head len f v s
-    → (s.steps ≡ 0 → ⊥) → Chained k u rows head len → v < k → u < length rows
-    → last ≡ get_or (set rows u (record { version = v; field = f; value = w; next = s.at })) s.prev last
-    → Stays k u rows (set (set rows u (record { version = v; field = f; value = w; next = s.at })) s.prev (relinked last u)) head len head (len + 1) 1
-stays_behind pos k rows head len f v u s w last F n C lv lu is =
-    let tot = F.passed.total in
-    let j = s.steps - 1 in
-    let e : s.steps ≡ suc (s.steps - 1) = omega (arith, n) in
-    let p : s.prev ≡ node rows head (s.steps - 1) = F.passed.last (s.steps - 1) e in
-    let lp : s.prev < u = found_prev pos k rows head len f v u s F n (below_of u rows head len C.0) in
-    let ls = length-set rows u (record { version = v; field = f; value = w; next = s.at }) in
-    let i : last ≡ get_or (set rows u (record { version = v; field = f; value = w; next = s.at })) s.prev blank = get_or_read _ s.prev last (omega (arith, lp, lu, ls)) is blank in
-    let i' : last ≡ get_or (set rows u (record { version = v; field = f; value = w; next = s.at })) (node rows head (s.steps - 1)) blank =
-    i ∙ ap (λ (z : ℕ). get_or (set rows u (record { version = v; field = f; value = w; next = s.at })) z blank) p in
-    let nx : s.at ≡ node rows head (suc (s.steps - 1)) = F.passed.reached ∙ ap (node rows head) e in
-    let lk : suc (s.steps - 1) ≤ len = omega (arith, tot, e) in
-    subst (λ (z : ℕ). Stays k u rows (set (set rows u (record { version = v; field = f; value = w; next = s.at })) z (relinked last u)) head len head (len + 1) 1) (sym p)
-    (record {
-      frame = behind_frame k u (s.steps - 1) rows head len (record { version = v; field = f; value = w; next = s.at }) last C lk lu nx i';
-      kept = behind_chained k u (s.steps - 1) rows head len (record { version = v; field = f; value = w; next = s.at }) last C lk lu nx i' lv;
-      drawn = inserted_drawn u (suc (s.steps - 1)) rows head len _ head (behind_inserted k u (s.steps - 1) rows head len (record { version = v; field = f; value = w; next = s.at }) last C lk lu nx i');
-    })
+    pub grows_behind : (prev : ℕ) → gap.prev ≡ Some prev → (R : List EntryRow) (d : EntryRow) → R ≡ set rows u (record { version = v; field = f; value = w; next = gap.next })
+        → Grows k u rows (set R prev (relinked (get_or R prev d) u)) from (record { head = from.head; len = from.len + 1 })
+    grows_behind prev some R d r =
+        let new : EntryRow = record { version = v; field = f; value = w; next = gap.next } in
+        let B = found_behind pos k rows from.head from.len f v gap w E prev some in
+        let lp = found_prev pos k rows from.head from.len f v gap w E prev some u C.0 in
+        let ls = length-set rows u new in
+        let last : EntryRow = get_or (set rows u new) prev d in
+        let is : get_or (set rows u new) prev d ≡ get_or (set rows u new) (node rows from.head B.0) blank =
+        get_or_default (set rows u new) prev d blank (omega (arith, lp, lu, ls)) ∙ ap (λ (z : ℕ). get_or (set rows u new) z blank) B.2 in
+        let nx : gap.next ≡ node rows from.head (suc B.0) = E.passed.reached ∙ ap (node rows from.head) B.1 in
+        subst (λ (z : List EntryRow). Grows k u rows (set z prev (relinked (get_or z prev d) u)) from (record { head = from.head; len = from.len + 1 })) (sym r)
+        (subst (λ (z : ℕ). Grows k u rows (set (set rows u new) z (relinked last u)) from (record { head = from.head; len = from.len + 1 })) (sym B.2)
+        (one_longer k u rows _ from from.head
+        (behind_frame k u B.0 rows from.head from.len new last C B.3 lu nx is)
+        (behind_chained k u B.0 rows from.head from.len new last C B.3 lu nx is lv)
+        (inserted_drawn u (suc B.0) rows from.head from.len _ from.head (behind_inserted k u B.0 rows from.head from.len new last C B.3 lu nx is))))

@@ -1,18 +1,14 @@
--- How far a walk goes that passes the rows before a version, or at and before it.
+-- How far a walk goes that passes the leading rows of some versions.
 --
---   passed    the walk passes a version
---   Skipped   where it stops
-use Rattle.std.specs.Prelude.{◌≡◌, ℕ, ◌-◌, ◌<◌, ◌≤◌, Bool, true, false, cond, List, nat_le, nat_lt, slice_index_or}
+--   Skipped   what is left of the chain, and what its rows' versions say
+use Rattle.std.specs.Prelude.{◌≡◌, ℕ, ◌-◌, ◌<◌, ◌≤◌, List, slice_index_or}
 use Rattle.chain_rows.specs.declared.row.EntryRow.{EntryRow}
+use Rattle.chain_rows.specs.declared.row.Chain.{Chain}
 use Rattle.chain_rows.specs.Chains.{blank, node}
 
--- the version v is passed on the way to x: one before x, and with too one at x as well
-abbrev pub passed : (ℕ → ℕ) → ℕ → Bool → ℕ → Bool
-passed pos x too v = cond too (nat_le (pos v) (pos x)) (nat_lt (pos v) (pos x))
-
--- the row at stands behind all rows passed; left rows are left
-pub record Skipped (pos : ℕ → ℕ) (rows : List EntryRow) (head len x : ℕ) (too : Bool) (at left : ℕ) : Type 0 where
-  pub short : left ≤ len
-  pub reached : at ≡ node rows head (len - left)
-  pub front : (a : ℕ) → a < len - left → passed pos x too (slice_index_or rows (node rows head a) blank).version ≡ true
-  pub stops : 0 < left → passed pos x too (slice_index_or rows at blank).version ≡ false
+-- rest is what is left of a chain behind all rows passed: the version of each row passed meets Yes, and that of the next row meets No
+pub record Skipped (Yes No : ℕ → Type 0) (rows : List EntryRow) (from rest : Chain) : Type 0 where
+  pub short : rest.len ≤ from.len
+  pub reached : rest.head ≡ node rows from.head (from.len - rest.len)
+  pub front : (a : ℕ) → a < from.len - rest.len → Yes (slice_index_or rows (node rows from.head a) blank).version
+  pub stops : 0 < rest.len → No (slice_index_or rows rest.head blank).version

@@ -1,23 +1,13 @@
-// A row of the table of entries, and a place in a chain of rows.
-use fields::kinds::Value;
+// A row of the table of entries, a chain of rows, and a place between two rows of a chain.
+use fields::kinds::{Field, Value};
 
-// One entry: its version, the number of its field, its value, and the row behind it in its chain.
+// One entry: its version, its field, its value, and the row behind it in its chain.
 #[derive(Clone, Copy)]
 pub struct EntryRow {
     pub version: u32,
-    pub field: u8,
+    pub field: Field,
     pub value: Value,
     pub next: usize,
-}
-
-// Where an entry goes in a chain: behind the first steps rows, the last of them prev, in place of the row at or before it.
-#[derive(Clone, Copy)]
-pub struct Spot {
-    pub steps: usize,
-    pub prev: usize,
-    pub at: usize,
-    pub left: usize,
-    pub same: bool,
 }
 
 // A chain: its first row and how many rows it has.
@@ -25,4 +15,16 @@ pub struct Spot {
 pub struct Chain {
     pub head: usize,
     pub len: usize,
+}
+
+impl Chain {
+    // A chain without rows.
+    pub const EMPTY: Chain = Chain { head: 0, len: 0 };
+}
+
+// Where a new row goes in a chain: behind the row prev, or first where there is none, and before the row next.
+#[derive(Clone, Copy)]
+pub struct Gap {
+    pub prev: Option<usize>,
+    pub next: usize,
 }

@@ -36,8 +36,7 @@ pub used_long : (t : ChainTable) → t.used ≤ length (vec_items t.rows)
 used_long t = let f = t.taken in let k = t.rows.ok.0 in omega (arith, f, k)
 
 -- a chain may be walked
-pub walkable : (t : ChainTable) (i : ℕ) (row : Chain) (k : ℕ) → i < t.made → row ≡ chain_at (vec_items t.chains) i → t.versions ≡ k → Within k (vec_items t.rows) row.head row.len
-walkable t i row k l e v =
-    subst (λ (z : ℕ). Within z (vec_items t.rows) row.head row.len) v
-    (subst (λ (r : Chain). Within t.versions (vec_items t.rows) r.head r.len) (sym e)
-    (chained_within t.versions t.used (vec_items t.rows) _ _ ((opened t).0 i l) (used_long t)))
+pub walkable : (t : ChainTable) (i : ℕ) (row : Chain) → i < t.made → row ≡ chain_at (vec_items t.chains) i → Within t.versions (vec_items t.rows) row.head row.len
+walkable t i row l e =
+    subst (λ (r : Chain). Within t.versions (vec_items t.rows) r.head r.len) (sym e)
+    (chained_within t.versions t.used (vec_items t.rows) _ _ ((opened t).0 i l) (used_long t))

@@ -7,7 +7,8 @@ use chain_rows::row::{Chain, EntryRow};
 mod ops;
 
 // The chains, of which the first made are in use, and the rows of their entries, of which the first used are taken; versions is how many
-// versions there are. What the table keeps does not depend on the order.
+// versions there are. What the table keeps does not depend on the order. A chain goes from row to row by index, in tables that are given
+// at the making: no call allocates, and the bound is on the entries of all chains together.
 pub struct ChainTable {
     chains: Vec<Chain>,
     rows: Vec<EntryRow>,

@@ -10,8 +10,8 @@ mod tests {
     use keys::piece::PieceKey;
     use refusals::Refusal;
     use std::test::Fail;
-    use text::numbers::{read_i32, read_u32, read_u64};
-    use text::split::Parts;
+    use text::numbers::Number;
+    use text::split::{Lines, Parts};
 
     // The first key goes before the second, and not the other way round.
     fn in_order<K: Key>(a: K, b: K) -> bool {
@@ -20,10 +20,8 @@ mod tests {
 
     // A key is at this place of the book, and it is this one.
     fn holds<K: Key>(book: &Book<K>, place: usize, key: K) -> bool {
-        match book.key(place) {
-            Some(found) => !found.goes_first(key) && !key.goes_first(found),
-            None => false,
-        }
+        book.key(place)
+            .is_some_and(|found| !found.goes_first(key) && !key.goes_first(found))
     }
 
     // Fails where a fact does not hold.
@@ -95,10 +93,7 @@ mod tests {
 
     // Whether the bytes are refused as a name.
     fn no_name(text: &[u8]) -> bool {
-        match NameKey::new(text) {
-            Ok(_) => false,
-            Err(refusal) => refusal.number() == 14,
-        }
+        NameKey::new(text).is_err_and(|refusal| refusal.number() == 14)
     }
 
     #[test]
@@ -113,28 +108,28 @@ mod tests {
 
     #[test]
     fn unsigned_numbers(rt: HostRuntime) {
-        assert_eq!(rt; read_u32(b"4294967295"), Some(4294967295));
-        assert_eq!(rt; read_u32(b"4294967296"), None);
+        assert_eq!(rt; u32::read(b"4294967295"), Some(4294967295));
+        assert_eq!(rt; u32::read(b"4294967296"), None);
         assert_eq!(rt;
-            read_u64(b"18446744073709551615"),
+            u64::read(b"18446744073709551615"),
             Some(18446744073709551615)
         );
-        assert_eq!(rt; read_u64(b"18446744073709551616"), None);
-        assert_eq!(rt; read_u64(b"0"), Some(0));
-        assert_eq!(rt; read_u64(b"007"), None);
-        assert_eq!(rt; read_u64(b"+7"), None);
-        assert_eq!(rt; read_u64(b""), None);
+        assert_eq!(rt; u64::read(b"18446744073709551616"), None);
+        assert_eq!(rt; u64::read(b"0"), Some(0));
+        assert_eq!(rt; u64::read(b"007"), None);
+        assert_eq!(rt; u64::read(b"+7"), None);
+        assert_eq!(rt; u64::read(b""), None);
     }
 
     #[test]
     fn signed_numbers(rt: HostRuntime) {
-        assert_eq!(rt; read_i32(b"2147483647"), Some(i32::MAX));
-        assert_eq!(rt; read_i32(b"2147483648"), None);
-        assert_eq!(rt; read_i32(b"-2147483648"), Some(i32::MIN));
-        assert_eq!(rt; read_i32(b"-2147483649"), None);
-        assert_eq!(rt; read_i32(b"-0"), None);
-        assert_eq!(rt; read_i32(b"-007"), None);
-        assert_eq!(rt; read_i32(b"-"), None);
+        assert_eq!(rt; i32::read(b"2147483647"), Some(i32::MAX));
+        assert_eq!(rt; i32::read(b"2147483648"), None);
+        assert_eq!(rt; i32::read(b"-2147483648"), Some(i32::MIN));
+        assert_eq!(rt; i32::read(b"-2147483649"), None);
+        assert_eq!(rt; i32::read(b"-0"), None);
+        assert_eq!(rt; i32::read(b"-007"), None);
+        assert_eq!(rt; i32::read(b"-"), None);
     }
 
     #[test]
@@ -142,14 +137,31 @@ mod tests {
         let piece = PieceKey { file: 7, piece: 40 };
         let text = piece.to_string(rt.alloc())?;
         assert_eq!(rt; text.as_str(), "7 40");
-        assert_eq!(rt; Parts::words(text.as_bytes()).piece(), Some(piece));
+        assert_eq!(rt; Parts::words(text.as_bytes()).key(), Some(piece));
         let job = JobKey {
             urgency: -3,
             number: 12,
         };
         let text = job.to_string(rt.alloc())?;
         assert_eq!(rt; text.as_str(), "-3 12");
-        assert_eq!(rt; Parts::words(text.as_bytes()).job(), Some(job));
+        assert_eq!(rt; Parts::words(text.as_bytes()).key(), Some(job));
         Ok(())
+    }
+
+    #[test]
+    fn numbers_of_words(rt: HostRuntime) {
+        let mut words = Parts::words(b"7 18446744073709551615 -3");
+        assert_eq!(rt; words.number::<u32>(), Some(7));
+        assert_eq!(rt; words.number::<u64>(), Some(u64::MAX));
+        assert_eq!(rt; words.number::<i32>(), Some(-3));
+        assert!(rt; words.is_done());
+    }
+
+    #[test]
+    fn lines_to_answer(rt: HostRuntime) {
+        let mut lines = Lines::new(b"one\n\n# two\nthree");
+        assert!(rt; lines.next() == Some(b"one".as_slice()));
+        assert!(rt; lines.next() == Some(b"three".as_slice()));
+        assert!(rt; lines.next().is_none());
     }
 }

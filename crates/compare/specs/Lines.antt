@@ -3,6 +3,7 @@
 --   Line       what a line says: build, file, length, fingerprints
 --   meaning    the line that a value of the program stands for
 --   build_of   the build that a word names
+--   head_of    the build, the file and its length that words begin with
 --   line_of    the line that words write, or nothing
 use Rattle.std.specs.Prelude.{ℕ, cond, List, Some, None, vec_items, codes, Option}
 use Rattle.std.specs.Str.{bytes_eq}
@@ -29,10 +30,13 @@ build_of w = cond (bytes_eq w (codes "was")) (Some Was) (cond (bytes_eq w (codes
 abbrev pub the_line : Build → ℕ → ℕ → List ℕ → Line
 the_line b f l ps = record { build = b; file = f; size = l; prints = ps }
 
--- the build, the file's 32-bit number, its 64-bit length, and fingerprints to the end of the line
-abbrev pub line_of : List (List ℕ) → Option Line
-line_of ws =
+-- the build, the file's 32-bit number and its 64-bit length
+abbrev pub head_of : List (List ℕ) → Option (Build × ℕ × ℕ)
+head_of ws =
     if_there (read_first build_of ws) (λ b.
     if_there (read_first (number_of 32) (behind_first ws)) (λ f.
-    if_there (read_first (number_of 64) (behind_first (behind_first ws))) (λ l.
-    if_there (numbers_of (behind_first (behind_first (behind_first ws)))) (λ ps. Some (the_line b f l ps)))))
+    if_there (read_first (number_of 64) (behind_first (behind_first ws))) (λ l. Some (b, f, l))))
+
+-- those, and fingerprints to the end of the line
+abbrev pub line_of : List (List ℕ) → Option Line
+line_of ws = if_there (head_of ws) (λ h. if_there (numbers_of (behind_first (behind_first (behind_first ws)))) (λ ps. Some (the_line h.0 h.1 h.2 ps)))

@@ -1,5 +1,5 @@
 -- Rows stay placed under a change, and a copy whose naming fields were redirected is the redirected copy.
-use Rattle.std.proofs.Common.{◌≡◌, ℕ, ◌+◌, ◌<◌, ◌≤◌, Bool, true, vec_len, sym, ◌∙◌, subst, arith}
+use Rattle.std.proofs.Common.{◌≡◌, ℕ, ◌+◌, ◌<◌, ◌≤◌, Option, true, vec_len, sym, ◌∙◌, subst, arith}
 use Rattle.std.proofs.lemmas.Bool.{lt-leb}
 use Rattle.fields.specs.declared.kinds.Value.{Value}
 use Rattle.slices.specs.Splits.{naming}
@@ -10,8 +10,8 @@ use Rattle.copies.specs.declared.table.CopyTable.{CopyTable}
 use Rattle.copies.specs.Views.{Placed, RedirectsAll, Changes, row_at, copy_of}
 use Rattle.copies.proofs.Owning.{in_rows}
 
-pub changes_placed : (pos : ℕ → ℕ) (n u s : ℕ) (more : Bool) (i f : ℕ) (w : Value) (t t' : CopyTable) → Changes pos n u s more i f w t t' → Placed t → Placed t'
-changes_placed pos n u s more i f w t t' C P = record {
+pub changes_placed : (pos : ℕ → ℕ) (n u : ℕ) (behind : Option ℕ) (i f : ℕ) (w : Value) (t t' : CopyTable) → Changes pos n u behind i f w t t' → Placed t → Placed t'
+changes_placed pos n u behind i f w t t' C P = record {
   rows = let r = P.rows in let m = C.made in let l = C.long in omega (arith, r, m, l);
   known = λ j l.
       let l' : j < t.chains.made = subst (λ (z : ℕ). j < z) C.made l in

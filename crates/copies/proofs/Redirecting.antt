@@ -1,7 +1,10 @@
 -- The entries of a copy after a field was redirected.
-use Rattle.std.proofs.Common.{◌≡◌, ℕ, ◌+◌, ◌<◌, ◌≤◌, Bool, true, false, cond, eqb, ltb, List, [], ◌∷◌, length, sym, refl, ap, ◌∙◌, subst, inl, inr, arith}
+use Rattle.std.proofs.Common.{◌≡◌, ℕ, zero, suc, ◌+◌, ◌-◌, ◌<◌, ◌≤◌, Bool, true, false, cond, eqb, ltb, List, [], ◌∷◌, length, get_or, sym, refl, ap, ◌∙◌, subst, inl, inr, arith}
 use Rattle.std.proofs.lemmas.Bool.{cases_Bool}
+use Rattle.fields.specs.declared.kinds.Field.{Field}
+use Rattle.fields.specs.declared.kinds.Field.TheVariants.{Left, Right, Third, FirstBack, SecondBack}
 use Rattle.fields.specs.declared.kinds.Value.{Value}
+use Rattle.fields.specs.Fields.{field_number}
 use Rattle.entries.specs.Entries.{Entry, both, mapped, put, read, renamed}
 use Rattle.entries.proofs.Counting.{put_adds, mapped_length}
 use Rattle.slices.specs.Copies.{value_at}
@@ -131,3 +134,35 @@ redirects_more pos n c d x i f fs t a t' H R = record {
         omega (arith, k, u),
       );
 }
+
+-- the last k of the fields that can name a copy
+abbrev pub last_naming : ℕ → List ℕ
+last_naming zero = []
+last_naming (suc k) = (4 - k) ∷ last_naming k
+
+-- no field
+pub redirects_none : (pos : ℕ → ℕ) (n c d x i : ℕ) (t : CopyTable) → RedirectsAll pos n c d x i [] t t
+redirects_none pos n c d x i t = record {
+  same = record { rows = λ j. refl; long = refl; nodes = refl };
+  made = refl;
+  versions = refl;
+  room = refl;
+  others = λ j l m. refl;
+  here = λ q. (refl, refl);
+}
+
+-- they are taken from the last to the first
+item_number : (k : ℕ) (d : Field) → k < 5 → field_number (get_or (SecondBack ∷ FirstBack ∷ Third ∷ Right ∷ Left ∷ []) k d) ≡ 4 - k
+item_number zero d l = refl
+item_number (suc zero) d l = refl
+item_number (suc (suc zero)) d l = refl
+item_number (suc (suc (suc zero))) d l = refl
+item_number (suc (suc (suc (suc zero)))) d l = refl
+item_number (suc (suc (suc (suc (suc k))))) d l = absurd (omega (arith, l))
+
+pub redirects_turn : (pos : ℕ → ℕ) (n c d x i k : ℕ) (e : Field) (t a t' : CopyTable) → k < 5 → RedirectsAll pos n c d x i (last_naming k) t a
+    → Redirects pos n c d x i (field_number (get_or (SecondBack ∷ FirstBack ∷ Third ∷ Right ∷ Left ∷ []) k e)) a t' → RedirectsAll pos n c d x i (last_naming (k + 1)) t t'
+redirects_turn pos n c d x i k e t a t' l H R =
+    let z : suc k ≡ k + 1 = omega arith in
+    subst (λ (j : ℕ). RedirectsAll pos n c d x i (last_naming j) t t') z
+    (redirects_more pos n c d x i (4 - k) (last_naming k) t a t' H (subst (λ (f : ℕ). Redirects pos n c d x i f a t') (item_number k e l) R))

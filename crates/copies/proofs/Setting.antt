@@ -1,5 +1,6 @@
 -- A field of a copy after its change: a new first value, or an entry.
-use Rattle.std.proofs.Common.{◌≡◌, ℕ, ◌+◌, ◌<◌, ◌≤◌, Bool, true, false, cond, eqb, ltb, List, length, vec_len, sym, ap, ◌∙◌, subst, inl, inr, arith}
+use Rattle.std.proofs.Common.{◌≡◌, ℕ, ◌+◌, ◌<◌, ◌≤◌, Bool, Option, true, false, cond, eqb, ltb, List, length, vec_len, sym, ap, ◌∙◌, subst, inl, inr, arith}
+use Rattle.std.specs.Option.{is_some}
 use Rattle.std.proofs.lemmas.Bool.{cases_Bool, cases_eq, eq-eqb, ne_eqb}
 use Rattle.fields.specs.declared.kinds.Value.{Value}
 use Rattle.order.specs.Items.{member, known, position}
@@ -13,7 +14,7 @@ use Rattle.chains.proofs.Asked.{is_asked}
 use Rattle.copy_rows.specs.declared.row.CopyRow.{CopyRow}
 use Rattle.copy_rows.specs.Rows.{first_of, Renewed}
 use Rattle.copies.specs.declared.table.CopyTable.{CopyTable}
-use Rattle.copies.specs.Views.{RowSet, Holds, Changes, held, row_at, copy_of}
+use Rattle.copies.specs.Views.{RowSet, Holds, Changes, behind_of, held, row_at, copy_of}
 use Rattle.copies.proofs.Owning.{in_rows}
 
 -- a copy by its row and its entries
@@ -24,16 +25,16 @@ copy_same : (r r' : CopyRow) (es es' : List (Entry Value)) → r' ≡ r → es' 
 copy_same r r' es es' a b = λ z. copy_with (a z) (b z)
 
 -- at most one entry comes in
-held_adds : (pos : ℕ → ℕ) (u s : ℕ) (more : Bool) (f : ℕ) (k : Copy) → length (held pos u s more f k) ≤ length k.entries + 1
-held_adds pos u s more f k =
-    let q = (keep_adds pos f s (value_at pos (pos u) k f) k.entries).0 in
-    elim (cases_Bool more) [ inl t ↦ rw t q | inr t ↦ rw t (omega arith) ]
+held_adds : (pos : ℕ → ℕ) (u : ℕ) (behind : Option ℕ) (f : ℕ) (k : Copy) → length (held pos u behind f k) ≤ length k.entries + 1
+held_adds pos u behind f k =
+    let q = (keep_adds pos f (behind_of behind) (value_at pos (pos u) k f) k.entries).0 in
+    elim (cases_Bool (is_some behind)) [ inl t ↦ rw t q | inr t ↦ rw t (omega arith) ]
 
 -- the copy begins at u: a new first value
-pub first_changes : (pos : ℕ → ℕ) (n u s : ℕ) (more : Bool) (i f : ℕ) (w : Value) (t a t' : CopyTable) (row row' : CopyRow) → Holds pos n u s more i f t a
+pub first_changes : (pos : ℕ → ℕ) (n u : ℕ) (behind : Option ℕ) (i f : ℕ) (w : Value) (t a t' : CopyTable) (row row' : CopyRow) → Holds pos n u behind i f t a
     → (i ≤ vec_len a.copies → row ≡ row_at a i) → row.lo ≡ u → Renewed row f w row' → RowSet i row' a t'
-    → Changes pos n u s more i f w t t'
-first_changes pos n u s more i f w t a t' row row' H row_is at N R =
+    → Changes pos n u behind i f w t t'
+first_changes pos n u behind i f w t a t' row row' H row_is at N R =
     let near = λ (l : i ≤ vec_len t.copies). row_is (subst (λ (z : ℕ). i ≤ z) (sym H.same.long) l) ∙ H.same.rows i in
     let now_is = λ (l : i ≤ vec_len t.copies). R.here (subst (λ (z : ℕ). i ≤ z) (sym H.same.long) l) in
     record {
@@ -57,10 +58,10 @@ first_changes pos n u s more i f w t a t' row row' H row_is at N R =
       others = λ j l m.
           copy_same (row_at t j) (row_at t' j) (entries_of t.chains j) (entries_of t'.chains j) (R.others j m ∙ H.same.rows j)
           (ap (λ (c : ChainTable). entries_of c j) R.chains ∙ H.others j l m);
-      here = λ P st au behind free.
+      here = λ P st au near_asked free.
           let A = is_asked t.chains n i u (sym au) in
           let li = in_rows t i P A.there in
-          let E = H.here (P, au, behind, free) in
+          let E = H.here (P, au, near_asked, free) in
           let e = near li in
           let b : eqb (pos u) (pos (row_at t i).lo) ≡ true = eq-eqb (pos u) (pos (row_at t i).lo) (ap pos (sym at ∙ ap (λ (r : CopyRow). r.lo) e)) in
           let serial = ap (λ (r : CopyRow). r.serial) (now_is li) ∙ (N.serial ∙ ap (λ (r : CopyRow). r.serial) e) in
@@ -74,19 +75,19 @@ first_changes pos n u s more i f w t a t' row row' H row_is at N R =
           let entries =
           ap (λ (c : ChainTable). entries_of c i) R.chains
           ∙ (E.0
-          ∙ sym (ap (λ (x : Bool). cond x (held pos u s more f (copy_of t i)) (put pos f u w (held pos u s more f (copy_of t i)))) b)) in (
+          ∙ sym (ap (λ (x : Bool). cond x (held pos u behind f (copy_of t i)) (put pos f u w (held pos u behind f (copy_of t i)))) b)) in (
             (λ z. record { serial = serial z; key = key z; lo = lo z; first = λ g. first g z; entries = entries z }),
             subst (λ (c : ChainTable). c.used + length (entries_of t.chains i) ≡ t.chains.used + length (entries_of c i)) (sym R.chains) E.1,
           );
     }
 
 -- the copy begins before u: an entry at u
-pub put_changes : (xs : List ℕ) → ((b : ℕ) → member xs b ≡ known xs b) → (u s : ℕ) (more : Bool) (i f : ℕ) (w : Value) (t a : CopyTable) (chains : ChainTable) (row : CopyRow)
-    → Holds (position xs) (length xs) u s more i f t a
+pub put_changes : (xs : List ℕ) → ((b : ℕ) → member xs b ≡ known xs b) → (u : ℕ) (behind : Option ℕ) (i f : ℕ) (w : Value) (t a : CopyTable) (chains : ChainTable) (row : CopyRow)
+    → Holds (position xs) (length xs) u behind i f t a
     → (i ≤ vec_len a.copies → row ≡ row_at a i) → (row.lo ≡ u → ⊥)
     → Alters (asked a.chains (length xs) i u) a.chains chains i (put (position xs) f u w (entries_of a.chains i))
-    → Changes (position xs) (length xs) u s more i f w t (record { root = a.root; copies = a.copies; chains = chains; nodes = a.nodes })
-put_changes xs numbered u s more i f w t a chains row H row_is off L =
+    → Changes (position xs) (length xs) u behind i f w t (record { root = a.root; copies = a.copies; chains = chains; nodes = a.nodes })
+put_changes xs numbered u behind i f w t a chains row H row_is off L =
     record {
       nodes = H.same.nodes;
       long = H.same.long;
@@ -97,10 +98,10 @@ put_changes xs numbered u s more i f w t a chains row H row_is off L =
       others = λ j l m.
           copy_same (row_at t j) (row_at a j) (entries_of t.chains j) (entries_of chains j) (H.same.rows j)
           (L.others j (subst (λ (z : ℕ). j < z) (sym H.made) l) m ∙ H.others j l m);
-      here = λ P st au behind free.
+      here = λ P st au near_asked free.
           let A = is_asked t.chains (length xs) i u (sym au) in
           let li = in_rows t i P A.there in
-          let E = H.here (P, au, behind, free) in
+          let E = H.here (P, au, near_asked, free) in
           let e : row ≡ row_at t i = row_is (subst (λ (z : ℕ). i ≤ z) (sym H.same.long) li) ∙ H.same.rows i in
           let lu : u < length xs = subst (λ (z : ℕ). u < z) A.same A.version in
           let ll : (row_at t i).lo < length xs = subst (λ (z : ℕ). (row_at t i).lo < z) A.same (P.known i A.there) in
@@ -111,7 +112,7 @@ put_changes xs numbered u s more i f w t a chains row H row_is off L =
           ap (λ (z : ℕ). both (ltb i z) (both (ltb u a.chains.versions) (eqb (length xs) a.chains.versions))) H.made
           ∙ (ap (λ (z : ℕ). both (ltb i t.chains.made) (both (ltb u z) (eqb (length xs) z))) H.versions ∙ au) in
           let adds = (put_adds (position xs) f u w (entries_of a.chains i)).0 in
-          let few = subst (λ (l : List (Entry Value)). length l ≤ length (entries_of t.chains i) + 1) (sym E.0) (held_adds (position xs) u s more f (copy_of t i)) in
+          let few = subst (λ (l : List (Entry Value)). length l ≤ length (entries_of t.chains i) + 1) (sym E.0) (held_adds (position xs) u behind f (copy_of t i)) in
           let taken = E.1 in
           let room = H.room in
           let D = L.here told (omega (arith, adds, few, taken, room, free)) in
@@ -119,7 +120,7 @@ put_changes xs numbered u s more i f w t a chains row H row_is off L =
           let entries =
           D.0
           ∙ (ap (λ (l : List (Entry Value)). put (position xs) f u w l) E.0
-          ∙ sym (ap (λ (x : Bool). cond x (held (position xs) u s more f (copy_of t i)) (put (position xs) f u w (held (position xs) u s more f (copy_of t i)))) b)) in
+          ∙ sym (ap (λ (x : Bool). cond x (held (position xs) u behind f (copy_of t i)) (put (position xs) f u w (held (position xs) u behind f (copy_of t i)))) b)) in
           let long = ap length D.0 in
           let used = D.1 in (
             (λ z. record { serial = (H.same.rows i z).serial; key = (H.same.rows i z).key; lo = (H.same.rows i z).lo; first = λ g. first g z; entries = entries z }),

@@ -5,10 +5,11 @@
 --   Placed                    each copy has a row, begins at a known version, and its next copy is there
 --   SameRows, RowSet          the rows are as they were; one row is another
 --   Enters                    a copy has other entries
+--   behind_of                 the version behind a change
 --   held, Holds               the entries of a copy after the version behind a change keeps the old value
 --   RedirectsAll, Redirects   fields of a copy, or one, name one copy in place of another from a version on
 --   Changes                   a field of a copy is changed at a version
-use Rattle.std.specs.Prelude.{◌≡◌, ℕ, suc, ◌+◌, ◌<◌, ◌≤◌, Bool, true, cond, List, [], ◌∷◌, length, Some, None, vec_items, vec_len, Option, ◌≢◌, slice_index_or}
+use Rattle.std.specs.Prelude.{◌≡◌, ℕ, suc, ◌+◌, ◌<◌, ◌≤◌, true, cond, List, [], ◌∷◌, length, Some, None, vec_items, vec_len, Option, ◌≢◌, slice_index_or, is_some, IfSome}
 use Rattle.fields.specs.declared.kinds.Value.{Value}
 use Rattle.fields.specs.declared.kinds.Value.TheVariants.{Nil}
 use Rattle.entries.specs.Entries.{Entry, keep}
@@ -55,10 +56,15 @@ pub record RowSet (i : ℕ) (row : CopyRow) (t t' : CopyTable) : Type 0 where
   pub nodes : t'.nodes ≡ t.nodes
   pub chains : t'.chains ≡ t.chains
 
--- the entries of a copy, where the version s behind u has an entry of the field f if more says that the copy serves it: that which it had,
--- or one with the value at u
-abbrev pub held : (ℕ → ℕ) → ℕ → ℕ → Bool → ℕ → Copy → List (Entry Value)
-held pos u s more f k = cond more (keep pos f s (value_at pos (pos u) k f) k.entries) k.entries
+-- the version behind a change; where the copy serves none, which one plays no part
+abbrev pub behind_of : Option ℕ → ℕ
+behind_of None = 0
+behind_of (Some s) = s
+
+-- the entries of a copy, where the version behind u, if the copy serves it, has an entry of the field f: that which it had, or one with the
+-- value at u
+abbrev pub held : (ℕ → ℕ) → ℕ → Option ℕ → ℕ → Copy → List (Entry Value)
+held pos u behind f k = cond (is_some behind) (keep pos f (behind_of behind) (value_at pos (pos u) k f) k.entries) k.entries
 
 -- where all is ready, the copy i has the entries new; all else is as it was
 pub record Enters (ready : Type 0) (i : ℕ) (new : List (Entry Value)) (t t' : CopyTable) : Type 0 where
@@ -70,10 +76,10 @@ pub record Enters (ready : Type 0) (i : ℕ) (new : List (Entry Value)) (t t' : 
   pub here : ready → (entries_of t'.chains i ≡ new) × (t'.chains.used + length (entries_of t.chains i) ≡ t.chains.used + length (entries_of t'.chains i))
 
 -- the version behind a change keeps its value, where the chains answer and two rows are free
-abbrev pub Holds : (ℕ → ℕ) → ℕ → ℕ → ℕ → Bool → ℕ → ℕ → CopyTable → CopyTable → Type 0
-Holds pos n u s more i f t t' =
-    Enters (Placed t × (asked t.chains n i u ≡ true) × (more ≡ true → asked t.chains n i s ≡ true) × (t.chains.used + 2 ≤ vec_len t.chains.rows))
-    i (held pos u s more f (copy_of t i)) t t'
+abbrev pub Holds : (ℕ → ℕ) → ℕ → ℕ → Option ℕ → ℕ → ℕ → CopyTable → CopyTable → Type 0
+Holds pos n u behind i f t t' =
+    Enters (Placed t × (asked t.chains n i u ≡ true) × IfSome behind (λ s. asked t.chains n i s ≡ true) × (t.chains.used + 2 ≤ vec_len t.chains.rows))
+    i (held pos u behind f (copy_of t i)) t t'
 
 -- from the version x on the fields fs of the copy i name d where they named c, and get an entry at x where their values across x name c;
 -- the chains answer, and a row for each is free
@@ -88,7 +94,7 @@ Redirects pos n c d x i f t t' = RedirectsAll pos n c d x i (f ∷ []) t t'
 
 -- the field f of the copy i is changed at the version u by the rule of changes, where the rows are placed, the chains answer, the row has a
 -- place for the field and two entry rows are free; all other copies are as they were, and each copy begins where it did and has its next
-pub record Changes (pos : ℕ → ℕ) (n u s : ℕ) (more : Bool) (i f : ℕ) (w : Value) (t t' : CopyTable) : Type 0 where
+pub record Changes (pos : ℕ → ℕ) (n u : ℕ) (behind : Option ℕ) (i f : ℕ) (w : Value) (t t' : CopyTable) : Type 0 where
   pub nodes : t'.nodes ≡ t.nodes
   pub long : vec_len t'.copies ≡ vec_len t.copies
   pub made : t'.chains.made ≡ t.chains.made
@@ -96,5 +102,5 @@ pub record Changes (pos : ℕ → ℕ) (n u s : ℕ) (more : Bool) (i f : ℕ) (
   pub room : vec_len t'.chains.rows ≡ vec_len t.chains.rows
   pub marks : (j : ℕ) → j ≤ vec_len t.copies → ((row_at t' j).lo ≡ (row_at t j).lo) × (next_of t' j ≡ next_of t j)
   pub others : (j : ℕ) → j < t.chains.made → (j ≢ i) → copy_of t' j ≡ copy_of t j
-  pub here : Placed t → stored f ≡ true → asked t.chains n i u ≡ true → (more ≡ true → asked t.chains n i s ≡ true) → t.chains.used + 2 ≤ vec_len t.chains.rows
-      → (copy_of t' i ≡ changed pos u s more f w (copy_of t i)) × (t'.chains.used + length (entries_of t.chains i) ≡ t.chains.used + length (entries_of t'.chains i))
+  pub here : Placed t → stored f ≡ true → asked t.chains n i u ≡ true → IfSome behind (λ s. asked t.chains n i s ≡ true) → t.chains.used + 2 ≤ vec_len t.chains.rows
+      → (copy_of t' i ≡ changed pos u (behind_of behind) (is_some behind) f w (copy_of t i)) × (t'.chains.used + length (entries_of t.chains i) ≡ t.chains.used + length (entries_of t'.chains i))

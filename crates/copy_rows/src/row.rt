@@ -1,8 +1,9 @@
-// A row of the table of copies, and its first values by the numbers of their fields.
+// A row of the table of copies, and its first values by their fields.
 ghost use Rattle.std.specs.Prelude.{◌≡◌};
+ghost use Rattle.fields.specs.Fields.{field_number};
 ghost use Rattle.copy_rows.specs.Rows.{Renewed, first_of};
 
-use fields::kinds::Value;
+use fields::kinds::{Field, Value};
 
 // A copy without its entries: the serial number of its node, the key place, the first version, the values there of the two links, the
 // two back links, the value and the mark, and the copy of its node that begins next.
@@ -22,46 +23,33 @@ pub struct CopyRow {
 
 impl CopyRow {
     // The first value of a field.
-    pub fn first(self, field: u8) -> Value
-        ensures { result ≡ first_of self field }
+    pub fn first(self, field: Field) -> Value
+        ensures { result ≡ first_of self (field_number field) }
     {
-        if field == 0 {
-            self.left
-        } else if field == 1 {
-            self.right
-        } else if field == 3 {
-            self.back
-        } else if field == 4 {
-            self.other
-        } else if field == 5 {
-            self.value
-        } else if field == 6 {
-            self.mark
-        } else if field < 5 {
-            Value::Nil
-        } else {
-            Value::Number(0)
+        match field {
+            Field::Left => self.left,
+            Field::Right => self.right,
+            Field::Third => Value::Nil,
+            Field::FirstBack => self.back,
+            Field::SecondBack => self.other,
+            Field::Number(0) => self.value,
+            Field::Number(1) => self.mark,
+            Field::Number(_) => Value::Number(0),
         }
     }
 
     // The row with another first value of a field.
-    pub fn with_first(self, field: u8, w: Value) -> CopyRow
-        ensures { Renewed self field w result }
+    pub fn with_first(self, field: Field, w: Value) -> CopyRow
+        ensures { Renewed self (field_number field) w result }
     {
-        let mut row = self;
-        if field == 0 {
-            row.left = w;
-        } else if field == 1 {
-            row.right = w;
-        } else if field == 3 {
-            row.back = w;
-        } else if field == 4 {
-            row.other = w;
-        } else if field == 5 {
-            row.value = w;
-        } else if field == 6 {
-            row.mark = w;
+        match field {
+            Field::Left => CopyRow { left: w, ..self },
+            Field::Right => CopyRow { right: w, ..self },
+            Field::FirstBack => CopyRow { back: w, ..self },
+            Field::SecondBack => CopyRow { other: w, ..self },
+            Field::Number(0) => CopyRow { value: w, ..self },
+            Field::Number(1) => CopyRow { mark: w, ..self },
+            Field::Third | Field::Number(_) => self,
         }
-        row
     }
 }

@@ -1,7 +1,7 @@
 -- What grouped items say: they stand group by group, and their keys rise.
 use Rattle.std.proofs.Common.{◌≡◌, ℕ, suc, ◌+◌, ◌*◌, ◌<◌, ◌≤◌, true, ◌⊎◌, List, [], ◌∷◌, ◌++◌, length, sym, refl, ap, ◌∙◌, subst, inl, inr, arith}
 use Rattle.std.proofs.lemmas.Bool.{eq-eqb, ne_eqb, false≢true, both_ways}
-use Rattle.std.proofs.lemmas.List.{length-append}
+use Rattle.std.proofs.lemmas.List.{append-nil, length-append}
 use Rattle.grouping.specs.Blocks.{flat, in_group, blocks_of, Inside, Ranks, Grouped}
 use Rattle.linked_lists.proofs.Insert.{above_same}
 use Rattle.linked_lists.specs.Chain.{Above}
@@ -68,9 +68,6 @@ module _ (grp rank : ℕ → ℕ) where
   groups_few (g ∷ gs) (b ∷ bs) h =
       let r = groups_few gs bs h.1 in let s = h.0.some in let l = length-append b (flat bs) in omega arith
 
-  keyed : (k : ℕ) → List ℕ → ℕ → ℕ
-  keyed k gs x = (k + position gs (grp x)) * 64 + rank x
-
   above_weaker : (lab : ℕ → ℕ) (lo hi : ℕ) (xs : List ℕ) → lo ≤ hi → Above lab hi xs → Above lab lo xs
   above_weaker lab lo hi [] l h = omega arith
   above_weaker lab lo hi (x ∷ xs) l h = let u = h.0 in (omega arith, h.1)
@@ -117,10 +114,6 @@ module _ (grp : ℕ → ℕ) where
   none_of : (g : ℕ) (xs : List ℕ) → ((x : ℕ) → member xs x ≡ true → grp x ≡ g → ⊥) → in_group grp g xs ≡ []
   none_of g [] h = refl
   none_of g (y ∷ ys) h = simp (ne_eqb (grp y) g (h y (member_here y ys))) (none_of g ys (λ x m. h x (member_there y ys x m)))
-
-  append-nil : (b : List ℕ) → b ++ [] ≡ b
-  append-nil [] = refl
-  append-nil (y ∷ ys) = ap (λ (l : List ℕ). y ∷ l) (append-nil ys)
 
   rest_same : (gs b xs : List ℕ) → ((x : ℕ) → member b x ≡ true → member gs (grp x) ≡ true → ⊥) → blocks_of grp gs (b ++ xs) ≡ blocks_of grp gs xs
   rest_same [] b xs h = refl

@@ -1,5 +1,5 @@
 -- The group that has an item, what stands around it, and what stays grouped.
-use Rattle.std.proofs.Common.{◌≡◌, ℕ, zero, suc, ◌+◌, ◌-◌, ◌<◌, ◌≤◌, Bool, true, false, cond, ltb, ◌⊎◌, List, [], ◌∷◌, ◌++◌, length, take, drop, sym, refl, ap, ◌∙◌, subst, inl, inr, arith}
+use Rattle.std.proofs.Common.{◌≡◌, ℕ, zero, suc, ◌+◌, ◌-◌, ◌<◌, ◌≤◌, Bool, true, false, cond, ltb, ◌⊎◌, List, [], ◌∷◌, ◌++◌, length, take, drop, sym, refl, ap, ◌∙◌, subst, inl, inr, append_assoc, arith}
 use Rattle.std.proofs.lemmas.Bool.{cases_Bool, eq-eqb, ne_eqb, lt-ltb, le-ltb, false≢true, both_ways}
 use Rattle.std.proofs.lemmas.List.{length-take-le, length-drop}
 use Rattle.grouping.proofs.Blocks.{member_append, member_left, member_right, inside_at, group_in}
@@ -171,11 +171,7 @@ in_right (b ∷ bl) br x m = member_right b (flat (bl ++ br)) x (in_right bl br 
 
 pub flat_parts : (bl : List (List ℕ)) (b : List ℕ) (br : List (List ℕ)) → flat (bl ++ (b ∷ br)) ≡ flat bl ++ (b ++ flat br)
 flat_parts [] b br = refl
-flat_parts (c ∷ cs) b br = ap (λ (l : List ℕ). c ++ l) (flat_parts cs b br) ∙ sym (assoc c (flat cs) (b ++ flat br))
-  where
-    assoc : (xs ys zs : List ℕ) → (xs ++ ys) ++ zs ≡ xs ++ (ys ++ zs)
-    assoc [] ys zs = refl
-    assoc (x ∷ xs) ys zs = ap (λ (l : List ℕ). x ∷ l) (assoc xs ys zs)
+flat_parts (c ∷ cs) b br = ap (λ (l : List ℕ). c ++ l) (flat_parts cs b br) ∙ sym (append_assoc c (flat cs) (b ++ flat br))
 
 not_in : (c cs : List ℕ) (a : ℕ) → (member (c ++ cs) a ≡ true → ⊥) → member c a ≡ false
 not_in c cs a h = elim (cases_Bool (member c a)) [ inl t ↦ absurd (h (member_left c cs a t)) | inr f ↦ f ]

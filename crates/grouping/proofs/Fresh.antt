@@ -1,56 +1,40 @@
--- A table whose row 0 is blank holds item 0 alone, in group 0.
-use Rattle.std.proofs.Common.{◌≡◌, ℕ, ◌+◌, ◌*◌, ◌<◌, ◌≤◌, List, [], ◌∷◌, length, get_or, set, sym, refl, ap, ◌∙◌, subst, inl, inr, arith, lit≤}
-use Rattle.std.proofs.lemmas.Bool.{eq-eqb, ne_eqb, false≢true, cases_eq}
-use Rattle.std.proofs.lemmas.List.{get_or-set_same, length-set}
+-- A table of item 0 alone, in group 0: F are its rows, and k is the count of its items.
+use Rattle.std.proofs.Common.{◌≡◌, ℕ, ◌+◌, ◌*◌, List, [], ◌∷◌, set, sym, ap, ◌∙◌, subst, arith, lit≤}
+use Rattle.std.proofs.lemmas.Bool.{eq-eqb}
 use Rattle.grouping.specs.Blocks.{flat, Grouped}
-use Rattle.grouping.specs.Groups.{listed, Sound, blocked, blank, group_at, rank_at, key}
-use Rattle.grouping.specs.declared.item.Item.{Item}
+use Rattle.grouping.specs.Groups.{Item, Sound, blocked, first_seat, seat_at, group_at, rank_at, key}
+use Rattle.grouping.specs.declared.item.Seat.{Seat}
+use Rattle.linked_lists.proofs.Fresh.{made_items, made_tag, made_rising}
+use Rattle.linked_lists.specs.Chain as lists
+use Rattle.linked_lists.specs.Chain.{listed, blank}
 use Rattle.order.specs.Items.{position}
 
-module _ (rows : List Item) (limit : ℕ) (lo : 0 < limit) (hi : limit ≤ 4096) (room : limit ≤ length rows) (glimit : ℕ) (gl : glimit ≡ limit) where
-  start : get_or (set rows 0 blank) 0 blank ≡ blank
-  start = get_or-set_same rows 0 blank blank (omega arith)
+module _ (rows : List Item) {F : List Item} {k limit : ℕ} (s : lists.Sound F k limit) (e : F ≡ set rows 0 (blank first_seat)) (n : k ≡ 1)
+    (groups : List ℕ) (gs : groups ≡ 0 ∷ []) where
+  start : seat_at F 0 ≡ first_seat
+  start = made_tag first_seat rows s e n first_seat
 
-  in_0 : group_at (set rows 0 blank) 0 ≡ 0
-  in_0 = ap (λ (r : Item). r.group) start
+  in_0 : group_at F 0 ≡ 0
+  in_0 = ap (λ (t : Seat). t.group) start
 
-  rank_0 : rank_at (set rows 0 blank) 0 ≡ 0
-  rank_0 = ap (λ (r : Item). r.rank) start
+  rank_0 : rank_at F 0 ≡ 0
+  rank_0 = ap (λ (t : Seat). t.rank) start
 
-  key_0 : key (set rows 0 blank) (0 ∷ []) 0 ≡ 0
-  key_0 = ap (λ (r : Item). position (0 ∷ []) r.group * 64 + r.rank) start
+  key_0 : key F groups 0 ≡ 0
+  key_0 = ap (λ (l : List ℕ). key F l 0) gs ∙ ap (λ (t : Seat). position (0 ∷ []) t.group * 64 + t.rank) start
 
-  one : blocked (set rows 0 blank) (0 ∷ []) 1 ≡ (0 ∷ []) ∷ []
-  one = simp (eq-eqb (group_at (set rows 0 blank) 0) 0 in_0)
+  pub fresh_blocks : blocked F groups k ≡ (0 ∷ []) ∷ []
+  fresh_blocks = ap (λ (i : ℕ). blocked F groups i) n ∙ (ap (λ (l : List ℕ). blocked F l 1) gs ∙ one)
+    where
+      one : blocked F (0 ∷ []) 1 ≡ (0 ∷ []) ∷ []
+      one = simp (eq-eqb (group_at F 0) 0 in_0)
 
-  alone : Sound (set rows 0 blank) (0 ∷ []) glimit 1 limit
-  alone = record {
-    some = lit≤ tt;
-    few = lo;
-    small = hi;
-    room = simp length-set room;
-    chain = record {
-      linked = (refl, ap (λ (r : Item). r.next) start);
-      backed = (ap (λ (r : Item). r.prev) start, tt);
-      rising = (omega arith, let e = key_0 in omega arith);
-      long = refl;
-      known = λ a h. simp (eq-eqb 0 a (omega arith));
-      within = λ a m. elim (cases_eq 0 a) [ inl e ↦ omega arith | inr d ↦ absurd (false≢true (simp (ne_eqb 0 a d) at m)) ];
-    };
+  pub fresh_sound : (glimit : ℕ) → glimit ≡ limit → Sound F groups glimit k limit
+  fresh_sound glimit gl = record {
+    rising = made_rising first_seat rows s e n (key F groups) key_0;
     same = gl;
-    blocks = subst (λ (b : List (List ℕ)). Grouped (group_at (set rows 0 blank)) (rank_at (set rows 0 blank)) (0 ∷ []) b) (sym one)
-        (record { all = (in_0, tt); ranks = (omega arith, let r = rank_0 in omega arith); some = lit≤ tt; few = lit≤ tt }, tt);
-    whole = ap flat one;
+    blocks = subst (λ (l : List ℕ). Grouped (group_at F) (rank_at F) l (blocked F groups k)) (sym gs)
+        (subst (λ (b : List (List ℕ)). Grouped (group_at F) (rank_at F) (0 ∷ []) b) (sym fresh_blocks)
+        (record { all = (in_0, tt); ranks = (omega arith, let r = rank_0 in omega arith); some = lit≤ tt; few = lit≤ tt }, tt));
+    whole = ap flat fresh_blocks ∙ sym (made_items first_seat rows s e n);
   }
-
-  pub fresh_sound : (groups : List ℕ) → groups ≡ 0 ∷ [] → Sound (set rows 0 blank) groups glimit 1 limit
-  fresh_sound groups e = subst (λ (gs : List ℕ). Sound (set rows 0 blank) gs glimit 1 limit) (sym e) alone
-
-  pub fresh_blocks : (groups : List ℕ) → groups ≡ 0 ∷ [] → blocked (set rows 0 blank) groups 1 ≡ (0 ∷ []) ∷ []
-  fresh_blocks groups e = ap (λ (gs : List ℕ). blocked (set rows 0 blank) gs 1) e ∙ one
-
-  -- the groups hold the items, and ranks rise along each
-  pub fresh_kept : (groups : List ℕ) → groups ≡ 0 ∷ [] →
-      (flat (blocked (set rows 0 blank) groups 1) ≡ listed (set rows 0 blank) 1)
-      × Grouped (group_at (set rows 0 blank)) (rank_at (set rows 0 blank)) groups (blocked (set rows 0 blank) groups 1)
-  fresh_kept groups e = let s = fresh_sound groups e in (s.whole, s.blocks)

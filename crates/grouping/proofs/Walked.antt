@@ -4,6 +4,7 @@ use Rattle.std.proofs.lemmas.Bool.{cases_eq, eq-eqb, ne_eqb, false≢true}
 use Rattle.grouping.proofs.Loops.{back_first, back_out, back_start, run_none, run_out}
 use Rattle.grouping.specs.Blocks.{Inside}
 use Rattle.grouping.specs.Groups.{back_to, back_step, first_of, run_of}
+use Rattle.linked_lists.proofs.Insert.{same_some}
 use Rattle.linked_lists.specs.Chain.{Linked, Backed, walk}
 use Rattle.order.proofs.Members.{member_cases, member_here, member_there}
 use Rattle.order.specs.Items.{member, behind}
@@ -71,9 +72,6 @@ module _ (p : ℕ → Option ℕ) (grp : ℕ → ℕ) (g : ℕ) where
   stops o [] y ys b out w x e = w x (sym b.0 ∙ e)
   stops o (z ∷ zs) y ys b out w x e =
       stops (Some z) zs y ys b.1 (λ q m. out q (member_there z zs q m)) (λ q d. out q (subst (λ (k : ℕ). member (z ∷ zs) k ≡ true) (same_some z q d) (member_here z zs))) x e
-    where
-      same_some : (y z : ℕ) → ◌≡◌ {A = Option ℕ} (Some y) (Some z) → y ≡ z
-      same_some y z e = cc
 
   stay : (k y : ℕ) (o : Option ℕ) → p y ≡ o → ((x : ℕ) → p y ≡ Some x → grp x ≡ g → ⊥) → y ≡ back_to p grp g k y
   stay k y None e w = back_first p grp g k y e
@@ -99,3 +97,9 @@ module _ (p : ℕ → Option ℕ) (grp : ℕ → ℕ) (g : ℕ) where
       skip : (o : Option ℕ) (xs : List ℕ) → Backed p o (xs ++ ((y ∷ ys) ++ zs)) → Backed p (Some y) (ys ++ zs)
       skip o [] b = b.1
       skip o (x ∷ xs) b = skip (Some x) xs b.1
+
+  pub first_stops : (xs ys zs : List ℕ) (a : ℕ) → Backed p None (xs ++ (ys ++ zs)) → ((x : ℕ) → member xs x ≡ true → grp x ≡ g → ⊥) → member ys a ≡ true →
+      (x : ℕ) → p (head_of ys) ≡ Some x → grp x ≡ g → ⊥
+  unfolding head_of
+  first_stops xs [] zs a b out m = absurd (false≢true m)
+  first_stops xs (y ∷ ys) zs a b out m = stops None xs y (ys ++ zs) b out (λ x e. let z : ◌≡◌ {A = ℕ} 0 1 = cc in absurd (omega arith))

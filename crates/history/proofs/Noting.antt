@@ -1,11 +1,11 @@
 -- Recording the pieces of a file one by one.
-use Rattle.std.proofs.Common.{◌≡◌, ℕ, zero, suc, ◌+◌, ◌^◌, ◌<◌, ◌≤◌, true, List, [], ◌∷◌, ◌++◌, length, get_or, take, Ok, Err, Result, sym, refl, ap, ◌∙◌, append_assoc, append-nil, le_of_suc-le-suc, not-suc-le-zero, add-one, arith, take_all}
+use Rattle.std.proofs.Common.{◌≡◌, ℕ, zero, suc, ◌+◌, ◌<◌, ◌≤◌, List, [], ◌∷◌, ◌++◌, length, get_or, take, Ok, Err, Result, sym, refl, ap, ◌∙◌, append_assoc, le_of_suc-le-suc, not-suc-le-zero, add-one, arith}
 use Rattle.std.proofs.lemmas.List.{length-append, length-take-le}
 use Rattle.history.specs.declared.record.NotedPiece.{NotedPiece}
-use Rattle.std.proofs.lemmas.Bool.{lt-ltb, le-leb, and_from}
+use Rattle.std.proofs.lemmas.Bool.{lt-ltb}
 use Rattle.refusals.specs.declared.kinds.BookRefusal.{BookRefusal}
 use Rattle.books.specs.Books.{push_answer, keys_after}
-use Rattle.history.specs.Files.{noted, file_pieces, fits}
+use Rattle.history.specs.Files.{noted, file_pieces}
 
 -- as many pieces as fingerprints
 pub length_pieces : (file k : ℕ) (prints : List ℕ) → length (file_pieces file k prints) ≡ length prints
@@ -25,9 +25,6 @@ pieces_next file j (suc k) (p ∷ ps) h =
 pub record Noting (before now : List NotedPiece) (file : ℕ) (prints : List ℕ) (k : ℕ) : Type 0 where
   pub keys : now ≡ before ++ file_pieces file 0 (take k prints)
 
-pub noting_start : (before : List NotedPiece) (file : ℕ) (prints : List ℕ) → Noting before before file prints 0
-noting_start before file prints = record { keys = sym (append-nil before) }
-
 pub noting_more : (before now next : List NotedPiece) (file : ℕ) (prints : List ℕ) (k : ℕ) → Noting before now file prints k → k < length prints →
     next ≡ now ++ (noted file k (get_or prints k 0) ∷ []) → Noting before next file prints (k + 1)
 noting_more before now next file prints k h lt e = record {
@@ -39,13 +36,13 @@ noting_more before now next file prints k h lt e = record {
       ∙ ap (λ (n : ℕ). file_pieces file 0 (take n prints)) (sym (add-one k)));
 }
 
-pub noting_length : (before now : List NotedPiece) (file : ℕ) (prints : List ℕ) (k : ℕ) → Noting before now file prints k → k ≤ length prints → length now ≡ length before + k
-noting_length before now file prints k h le =
-    ap length h.keys ∙ length-append before (file_pieces file 0 (take k prints))
-    ∙ ap (λ (n : ℕ). length before + n) (length_pieces file 0 (take k prints) ∙ length-take-le k prints le)
-
-pub noting_all : (before now : List NotedPiece) (file : ℕ) (prints : List ℕ) (k : ℕ) → Noting before now file prints k → length prints ≤ k → now ≡ before ++ file_pieces file 0 prints
-noting_all before now file prints k h le = h.keys ∙ ap (λ (l : List ℕ). before ++ file_pieces file 0 l) (take_all k prints le)
+-- before the last piece the book has room for one more
+pub noting_room : (before now : List NotedPiece) (file : ℕ) (prints : List ℕ) (k room : ℕ) → Noting before now file prints k → k < length prints →
+    length before + length prints ≤ room → length now < room
+noting_room before now file prints k room h lt enough =
+    let n = ap length h.keys ∙ length-append before (file_pieces file 0 (take k prints)) in
+    let m = length_pieces file 0 (take k prints) ∙ length-take-le k prints (omega arith) in
+    omega arith
 
 -- a book with room takes a key
 pub never_full : (ks : List NotedPiece) (room : ℕ) (r : Result ℕ BookRefusal) (e : BookRefusal) → length ks < room → r ≡ push_answer ks room → r ≡ Err e → ⊥
@@ -55,7 +52,3 @@ never_full ks room r e lt is err =
 
 pub keys_pushed : (ks next : List NotedPiece) (room : ℕ) (k : NotedPiece) → length ks < room → next ≡ keys_after ks room k → next ≡ ks ++ (k ∷ [])
 keys_pushed ks next room k lt e = e ∙ simp (lt-ltb (length ks) room lt)
-
--- where all pieces fit
-pub fits_all : (ks : List NotedPiece) (room : ℕ) (prints : List ℕ) → length ks + length prints ≤ room → length prints < 2 ^ 32 → fits ks room prints ≡ true
-fits_all ks room prints le lt = and_from _ _ (le-leb _ _ le) (lt-ltb _ _ lt)

@@ -2,3 +2,4 @@ pub mod Files
 pub mod Prints
 pub mod Same
 pub mod Verdicts
+pub mod Shown

@@ -1,25 +1,19 @@
 // Looking up fingerprints, and judging whether a file is unchanged.
-ghost use Rattle.std.specs.Prelude.{◌≡◌, true, false, length, MatchOption};
+ghost use Rattle.std.specs.Prelude.{◌≡◌, true, false, length, Err, MatchResult};
 ghost use Rattle.history.specs.Prints.{found_in};
 ghost use Rattle.history.specs.Same.{Unchanged, SomePiece, NoPiece};
 ghost use Rattle.history.specs.Verdicts.{AgreeBelow, Judged, LowestFrom};
 
+use crate::difference::Difference;
 use crate::record::History;
-use crate::verdict::Verdict;
 
 // Whether any piece of the file is recorded.
 pub fn records(history: &History, file: u32) -> bool
     ensures some { result ≡ true → SomePiece (found_in history.now file) }
     ensures none { result ≡ false → NoPiece (found_in history.now file) }
 {
-    for place in 0..history.count() {
-        if let Some(noted) = history.key(place) {
-            if noted.key.file == file {
-                return true;
-            }
-        }
-    }
-    false
+    let noted_pieces = history.as_slice();
+    noted_pieces.iter().any(|noted| noted.key.file == file)
 }
 
 // The fingerprint first recorded for this piece of the file, or nothing.
@@ -33,33 +27,29 @@ pub fn print_of(history: &History, file: u32, piece: u32) -> Option<u64>
 fn found(history: &History, file: u32, piece: u64) -> Option<u64>
     ensures { result ≡ found_in history.now file piece }
 {
-    for place in 0..history.count() {
-        if let Some(noted) = history.key(place) {
-            if noted.key.file == file && u64::from(noted.key.piece) == piece {
-                return Some(noted.print);
-            }
-        }
-    }
-    None
+    let noted_pieces = history.as_slice();
+    noted_pieces
+        .iter()
+        .find(|noted| noted.key.file == file && u64::from(noted.key.piece) == piece)
+        .map(|noted| noted.print)
 }
 
 // Whether the file with these fingerprints is as recorded, or which piece is the first that is not.
-pub fn judge(history: &History, file: u32, prints: &[u64]) -> Verdict
+// A file's number and fingerprints are two fields of its line; a struct of both would be made at each call, only to be taken apart.
+pub fn judge(history: &History, file: u32, prints: &[u64]) -> Result<(), Difference>
     ensures { Judged (found_in history.now file) prints.now result }
 {
     if !records(history, file) {
         return if prints.is_empty() {
-            Verdict::Unchanged
+            Ok(())
         } else {
-            Verdict::NotRecorded
+            Err(Difference::NotRecorded)
         };
     }
-    if let Some(verdict) = first_difference(history, file, prints) {
-        return verdict;
-    }
+    agree(history, file, prints)?;
     match lowest_from(history, file, prints.len() as u64) {
-        Some(piece) => Verdict::LeftOver(piece),
-        None => Verdict::Unchanged,
+        Some(piece) => Err(Difference::LeftOver(piece)),
+        None => Ok(()),
     }
 }
 
@@ -68,43 +58,32 @@ pub fn unchanged(history: &History, file: u32, prints: &[u64]) -> bool
     ensures sound { result ≡ true → Unchanged (found_in history.now file) prints.now }
     ensures complete { Unchanged (found_in history.now file) prints.now → result ≡ true }
 {
-    match judge(history, file, prints) {
-        Verdict::Unchanged => true,
-        _ => false,
-    }
+    judge(history, file, prints).is_ok()
 }
 
-// The verdict on the first piece that is not recorded with its fingerprint, or nothing where all are.
-fn first_difference(history: &History, file: u32, prints: &[u64]) -> Option<Verdict>
+// Whether each piece is recorded with its fingerprint, or how the first that is not differs.
+fn agree(history: &History, file: u32, prints: &[u64]) -> Result<(), Difference>
     requires { SomePiece (found_in history.now file) }
-    ensures { MatchOption result (AgreeBelow (found_in history.now file) prints.now (length prints.now)) (Judged (found_in history.now file) prints.now) }
+    ensures { MatchResult result (λ _. AgreeBelow (found_in history.now file) prints.now (length prints.now)) (λ difference. Judged (found_in history.now file) prints.now (Err difference)) }
 {
     for (k, print) in prints.iter().enumerate() {
         let piece = k as u64;
-        match found(history, file, piece) {
-            Some(recorded) => {
-                if recorded != *print {
-                    return Some(Verdict::Differs(piece));
-                }
-            }
-            None => return Some(Verdict::Missing(piece)),
+        let recorded = found(history, file, piece).ok_or(Difference::Missing(piece))?;
+        if recorded != *print {
+            return Err(Difference::Differs(piece));
         }
     }
-    None
+    Ok(())
 }
 
 // The lowest recorded piece of the file from this number on.
 fn lowest_from(history: &History, file: u32, from: u64) -> Option<u64>
     ensures { LowestFrom (found_in history.now file) from result }
 {
-    let mut lowest: Option<u64> = None;
-    for place in 0..history.count() {
-        if let Some(noted) = history.key(place) {
-            let piece = u64::from(noted.key.piece);
-            if noted.key.file == file && piece >= from {
-                lowest = Some(piece.min(lowest.unwrap_or(piece)));
-            }
-        }
-    }
-    lowest
+    let noted_pieces = history.as_slice();
+    noted_pieces
+        .iter()
+        .filter(|noted| noted.key.file == file && u64::from(noted.key.piece) >= from)
+        .map(|noted| u64::from(noted.key.piece))
+        .min()
 }

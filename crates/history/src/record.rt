@@ -9,5 +9,6 @@ pub struct NotedPiece {
     pub print: u64,
 }
 
-// The pieces of one build, in the order of their arrival.
+// The pieces of one build, in the order of their arrival. An alias, so that all that a book promises holds of it; what is asked of a record
+// alone are functions.
 pub type History<'a> = Book<'a, NotedPiece>;

@@ -1,9 +1,8 @@
 // Answers as text.
 ghost use Rattle.std.specs.Prelude.{Some};
-ghost use Rattle.key_lines.specs.Shown.{which_text, key_answer_text};
+ghost use Rattle.key_lines.specs.Shown.{which_text, key_refusal_text};
 
-use crate::answer::{KeyAnswer, Which};
-use refusals::Refusal;
+use crate::answer::{KeyRefusal, Which};
 use std::fmt;
 
 impl fmt::Display for Which {
@@ -18,17 +17,13 @@ impl fmt::Display for Which {
     }
 }
 
-impl fmt::Display for KeyAnswer {
-    ghost output = { λ a. Some (key_answer_text a) };
+impl fmt::Display for KeyRefusal {
+    ghost output = { λ e. Some (key_refusal_text e) };
 
     fn fmt<W: fmt::Write>(&self, f: &mut fmt::Formatter<W>) -> fmt::Result {
         match *self {
-            KeyAnswer::Goes(which) => which.fmt(f),
-            KeyAnswer::Refused(refusal) => {
-                let number = refusal.number();
-                write!(f, "refused {number}")
-            }
-            KeyAnswer::NotALine => write!(f, "not a line"),
+            KeyRefusal::Name(below) => write!(f, "{below}"),
+            KeyRefusal::NotALine => write!(f, "not a line"),
         }
     }
 }

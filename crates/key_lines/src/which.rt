@@ -8,7 +8,7 @@ use keys::key::Key;
 
 // The key that goes first, or that both are one key.
 pub fn which_goes_first<K: Key>(a: K, b: K) -> Which
-    ensures order { result ≡ which (K.Key.first a b) (K.Key.first b a) }
+    ensures order { result ≡ which (K.first a b) (K.first b a) }
     ensures equal { result ≡ Equal → a ≡ b }
     ensures one { a ≡ b → result ≡ Equal }
 {

@@ -1,12 +1,10 @@
--- Names: a name is its bytes, and how copying the bytes makes one.
-use Rattle.std.specs.Prelude.{◌≡◌, ℕ, ◌+◌, ◌-◌, ◌<◌, ◌≤◌, false, List, ◌++◌, length, take, drop, set, replicate, slice_index, slice_set, refl}
-use Rattle.std.proofs.Common.{sym, ap, ◌∙◌, zero-add, arith}
+-- Names: a name is its bytes.
+use Rattle.std.specs.Prelude.{◌≡◌, ℕ, ◌≤◌, false, List, length, take}
+use Rattle.std.proofs.Common.{sym, ap, ◌∙◌, arith}
 use mathlib.Core.HLevel.{is_prop→PathP}
 use Rattle.std.proofs.Math.Bridge.{le_prop}
 use base.Stored.{Coded-set, coded_list, coded_ℕ}
-use Rattle.std.proofs.Math.Seq.{paste}
-use Rattle.std.proofs.lemmas.List.{length-append, length-replicate, length-take, take_at, drop-replicate}
-use Rattle.std.proofs.lemmas.List.Edits.{paste_more, paste_all}
+use Rattle.std.proofs.lemmas.List.{length-append, length-replicate, length-take}
 use Rattle.keys.specs.declared.name.NameKey.{NameKey}
 use Rattle.keys.specs.Bytes.{padded, bytes_first}
 use Rattle.keys.specs.Names.{name_bytes}
@@ -44,37 +42,3 @@ equal_names_are_one a b e = λ i. record {
 -- where neither name goes first, they are one
 pub names_total : (a b : NameKey) → bytes_first (name_bytes a) (name_bytes b) ≡ false → bytes_first (name_bytes b) (name_bytes a) ≡ false → a ≡ b
 names_total a b p q = equal_names_are_one a b (bytes_total (name_bytes a) (name_bytes b) p q)
-
--- one byte more is copied over zeros
-pub copied_more : (text bytes : List ℕ) (i : ℕ) → i < length text → length text ≤ 16 → bytes ≡ paste (replicate 16 0) 0 text i →
-    slice_set bytes i (slice_index text i) ≡ paste (replicate 16 0) 0 text (i + 1)
-copied_more text bytes i lt few h =
-    ap (λ (l : List ℕ). set l i (slice_index text i)) h
-    ∙ ap (λ (k : ℕ). set (paste (replicate 16 0) 0 text i) k (slice_index text i)) (sym (zero-add i))
-    ∙ paste_more (replicate 16 0) 0 text i 0 (omega arith) lt
-
--- all of the text copied over zeros is the text, filled up
-copied_all : (text : List ℕ) → paste (replicate 16 0) 0 text (length text) ≡ padded text
-copied_all text = paste_all (replicate 16 0) 0 text (length text) refl ∙ ap (λ (l : List ℕ). text ++ l) (rest (length text))
-  where
-    zeros : ℕ → List ℕ
-    zeros n = replicate n 0
-
-    rest : (n : ℕ) → drop (0 + n) (zeros 16) ≡ zeros (16 - n)
-    rest n = drop-replicate (0 + n) 16 0 ∙ ap (λ (m : ℕ). zeros (16 - m)) (omega arith)
-
--- the front of the filled up text is the text
-front_padded : (text : List ℕ) → take (length text) (padded text) ≡ text
-front_padded text = take_at text (replicate (16 - length text) 0) (length text) refl
-
-whole_copy : (text bytes : List ℕ) (n : ℕ) → n ≡ length text → bytes ≡ paste (replicate 16 0) 0 text n → bytes ≡ padded text
-whole_copy text bytes n e h = h ∙ ap (paste (replicate 16 0) 0 text) e ∙ copied_all text
-
--- copying ends with a name's bytes: those of the text, with zeros behind
-pub copied_blank : (text bytes : List ℕ) (n : ℕ) → n ≡ length text → bytes ≡ paste (replicate 16 0) 0 text n → bytes ≡ padded (take (length text) bytes)
-copied_blank text bytes n e h =
-    let whole = whole_copy text bytes n e h in
-    whole ∙ ap padded (sym (ap (take (length text)) whole ∙ front_padded text))
-
-pub copied_name : (text bytes : List ℕ) (n : ℕ) → n ≡ length text → bytes ≡ paste (replicate 16 0) 0 text n → take (length text) bytes ≡ text
-copied_name text bytes n e h = ap (take (length text)) (whole_copy text bytes n e h) ∙ front_padded text

@@ -3,6 +3,7 @@ ghost use Rattle.keys.specs.Orders.{job_first};
 ghost use Rattle.std.proofs.Common.{rules};
 
 use crate::key::Key;
+use std::cmp::Reverse;
 
 // A job: how urgent it is, and its number. The more urgent one goes first; of two alike, the lower number.
 #[derive(Clone, Copy, PartialEq, Eq, Debug)]
@@ -21,6 +22,7 @@ impl Key for JobKey {
     ghost total = { Prim.search rules };
 
     fn goes_first(self, other: JobKey) -> bool {
-        self.urgency > other.urgency || self.urgency == other.urgency && self.number < other.number
+        let rank = |job: JobKey| (Reverse(job.urgency), job.number);
+        rank(self) < rank(other)
     }
 }

@@ -2,6 +2,7 @@
 ghost use Rattle.std.specs.Prelude.{◌≡◌, Bool, true, false};
 
 // A key: of two different keys one goes first.
+// `Ord` has no law that keys which tie are one key, and it would ask for two impls by hand, each with its laws, for jobs and again for names.
 pub trait Key: Copy {
     // the first key goes before the second
     ghost first: { Self → Self → Bool };

@@ -1,9 +1,10 @@
 // A name of 1 to 16 bytes, kept so that equal names are equal values.
-ghost use Rattle.std.specs.Prelude.{◌≡◌, ℕ, ◌≤◌, take};
+ghost use Rattle.std.specs.Prelude.{◌≡◌, ◌≤◌, take};
 ghost use Rattle.keys.specs.Bytes.{padded};
 
 // A name: its length, and its bytes with zeros behind them.
-#[derive(Clone, Copy)]
+// Keys are copied into tables that have no heap, so the bytes lie in the name itself, with their number beside them.
+#[derive(Clone, Copy, PartialEq, Eq, Debug)]
 pub struct NameKey {
     pub(crate) length: u8,
     pub(crate) bytes: [u8; 16],

@@ -1,5 +1,5 @@
 // Names made from bytes, compared, and read back.
-ghost use Rattle.std.specs.Prelude.{◌≡◌, MatchResult};
+ghost use Rattle.std.specs.Prelude.{◌≡◌};
 ghost use Rattle.keys.specs.Bytes.{bytes_first};
 ghost use Rattle.keys.specs.Names.{name_bytes, Named};
 ghost use Rattle.keys.specs.BytesLemmas.{bytes_irreflexive, bytes_transitive};
@@ -11,16 +11,16 @@ use refusals::kinds::NameRefusal;
 
 impl NameKey {
     // The name of these bytes; refused unless there are 1 to 16 of them.
+    // By `TryFrom` each name in quotes would have to be made a slice first, as `b"ab".as_slice()`.
     pub fn new(text: &[u8]) -> Result<NameKey, NameRefusal>
         ensures { Named text.now result }
     {
         if text.is_empty() || text.len() > 16 {
             return Err(NameRefusal::Length);
         }
+        // there are at most 16, so the length is kept whole in 8 bits
         let mut bytes = [0u8; 16];
-        for (i, b) in text.iter().enumerate() {
-            bytes[i] = *b;
-        }
+        bytes[..text.len()].copy_from_slice(text);
         Ok(NameKey {
             length: text.len() as u8,
             bytes,
@@ -31,23 +31,8 @@ impl NameKey {
     pub fn as_bytes(&self) -> &[u8]
         ensures { result.now ≡ name_bytes self.now }
     {
-        &self.bytes[0..self.length as usize]
+        &self.bytes[..usize::from(self.length)]
     }
-}
-
-// Whether the bytes of a go before those of b: compared byte by byte, a prefix first.
-fn bytes_go_first(a: &[u8], b: &[u8]) -> bool
-    ensures { result ≡ bytes_first a.now b.now }
-{
-    for (i, x) in a.iter().enumerate() {
-        if i >= b.len() {
-            return false;
-        }
-        if *x != b[i] {
-            return *x < b[i];
-        }
-    }
-    a.len() < b.len()
 }
 
 impl Key for NameKey {
@@ -60,6 +45,6 @@ impl Key for NameKey {
     ghost total = { λ a b p q. names_total a b p q };
 
     fn goes_first(self, other: NameKey) -> bool {
-        bytes_go_first(self.as_bytes(), other.as_bytes())
+        self.as_bytes() < other.as_bytes()
     }
 }

@@ -7,7 +7,7 @@ ghost use Rattle.std.proofs.Common.{rules};
 use crate::key::Key;
 
 // A piece of a file: the file's number, then the piece's, counted from 0.
-#[derive(Clone, Copy, PartialEq, Eq, Debug)]
+#[derive(Clone, Copy, PartialEq, Eq, PartialOrd, Ord, Debug)]
 pub struct PieceKey {
     pub file: u32,
     pub piece: u32,
@@ -23,7 +23,7 @@ impl Key for PieceKey {
     ghost total = { Prim.search rules };
 
     fn goes_first(self, other: PieceKey) -> bool {
-        self.file < other.file || self.file == other.file && self.piece < other.piece
+        self < other
     }
 }
 
@@ -34,10 +34,5 @@ pub const PIECE_BYTES: u64 = 65536;
 pub fn pieces_of(length: u64) -> u64
     ensures { result ≡ pieces length }
 {
-    let whole = length / PIECE_BYTES;
-    if length % PIECE_BYTES > 0 {
-        whole + 1
-    } else {
-        whole
-    }
+    length.div_ceil(PIECE_BYTES)
 }

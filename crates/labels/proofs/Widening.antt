@@ -86,9 +86,6 @@ pub widen_stop : (es : Entries) (l i fuel : ℕ) → crowd es l i ≤ capacity i
 widen_stop es l i zero h = refl
 widen_stop es l i (suc fuel) h = simp (le-leb (crowd es l i) (capacity i) h)
 
-pub widen_last : (es : Entries) (l i : ℕ) → 31 ≤ i → widen es l i (31 - i) ≡ i
-widen_last es l i h = ap (widen es l i) (let e : 31 - i ≡ 0 = omega arith in e)
-
 pub widen_more : (es : Entries) (l i : ℕ) → i < 31 → capacity i < crowd es l i → widen es l i (31 - i) ≡ widen es l (i + 1) (31 - (i + 1))
 widen_more es l i h k =
     let e : 31 - i ≡ suc (31 - (i + 1)) = omega arith in

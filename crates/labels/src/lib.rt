@@ -28,7 +28,7 @@ const CAPACITY: [u64; 32] = [
 pub fn room(i: u32) -> u64
     ensures { result ≡ room_of i }
 {
-    if i < 32 { CAPACITY[i as usize] } else { 0 }
+    CAPACITY.get(i as usize).copied().unwrap_or(0)
 }
 
 // The laws of the labels hold: a range with room always exists, the one taken is the smallest, and labels rise.

@@ -1,5 +1,5 @@
 -- What the decision over a new item says of the call and of its answer.
-use Rattle.std.proofs.Common.{◌≡◌, ℕ, ◌<◌, ◌≤◌, List, length, Some, None, Ok, Err, Option, sym, ap, ◌∙◌, inl, inr, arith}
+use Rattle.std.proofs.Common.{◌≡◌, ℕ, ◌<◌, ◌≤◌, List, length, Some, None, Ok, Option, sym, ap, ◌∙◌, inl, inr, arith}
 use Rattle.std.proofs.lemmas.Bool.{cases_lt, lt-ltb, le-ltb, cond-true, cond-false}
 use Rattle.refusals.specs.declared.kinds.OrderRefusal.{OrderRefusal}
 use Rattle.refusals.specs.declared.kinds.OrderRefusal.TheVariants.{UnknownItem, Full}
@@ -9,9 +9,6 @@ use Rattle.linked_lists.specs.Decisions.{after_refusal}
 apart : (e : OrderRefusal) → ◌≡◌ {A = Option OrderRefusal} (Some e) None → ⊥
 apart e q = let z : ◌≡◌ {A = ℕ} 0 1 = cc in absurd (omega arith)
 
-same : (d e : OrderRefusal) → ◌≡◌ {A = Option OrderRefusal} (Some d) (Some e) → d ≡ e
-same d e q = cc
-
 -- a new item behind a known one, with room for it, and the answer
 pub record Granted (xs : List ℕ) (count limit a : ℕ) : Type 0 where
   pub known : a < count
@@ -19,12 +16,6 @@ pub record Granted (xs : List ℕ) (count limit a : ℕ) : Type 0 where
   pub answer : Ok count ≡ after_answer xs limit a
 
 module _ (xs : List ℕ) (count limit a : ℕ) (long : length xs ≡ count) where
-  unknown_answer : count ≤ a → Err UnknownItem ≡ after_answer xs limit a
-  unknown_answer h = sym (cond-false _ _ _ (le-ltb a (length xs) (omega arith)))
-
-  full_answer : a < count → limit ≤ count → Err Full ≡ after_answer xs limit a
-  full_answer h k = sym (cond-true _ _ _ (lt-ltb a (length xs) (omega arith)) ∙ cond-false _ _ _ (le-ltb (length xs) limit (omega arith)))
-
   granted_answer : a < count → count < limit → Ok count ≡ after_answer xs limit a
   granted_answer h k =
       sym (cond-true _ _ _ (lt-ltb a (length xs) (omega arith)) ∙ (cond-true _ _ _ (lt-ltb (length xs) limit (omega arith)) ∙ ap (λ (m : ℕ). Ok m) long))
@@ -32,22 +23,12 @@ module _ (xs : List ℕ) (count limit a : ℕ) (long : length xs ≡ count) wher
   full_is : a < count → limit ≤ count → after_refusal count limit a ≡ Some Full
   full_is h k = cond-true _ _ _ (lt-ltb a count h) ∙ cond-false _ _ _ (le-ltb count limit k)
 
-  pub granted : (r : Option OrderRefusal) → r ≡ after_refusal count limit a → r ≡ None → Granted xs count limit a
-  granted r e was =
+  pub granted : after_refusal count limit a ≡ None → Granted xs count limit a
+  granted e =
       elim (cases_lt a count) [
         | inl t ↦ elim (cases_lt count limit) [
           | inl u ↦ record { known = t; room = u; answer = granted_answer t u }
-          | inr u ↦ absurd (apart Full (sym (full_is t u) ∙ (sym e ∙ was)))
+          | inr u ↦ absurd (apart Full (sym (full_is t u) ∙ e))
         ]
-        | inr t ↦ absurd (apart UnknownItem (sym (cond-false _ _ _ (le-ltb a count t)) ∙ (sym e ∙ was)))
-      ]
-
-  pub refused : (r : Option OrderRefusal) (d : OrderRefusal) → r ≡ after_refusal count limit a → r ≡ Some d → Err d ≡ after_answer xs limit a
-  refused r d e was =
-      elim (cases_lt a count) [
-        | inl t ↦ elim (cases_lt count limit) [
-          | inl u ↦ absurd (apart d (sym was ∙ (e ∙ (cond-true _ _ _ (lt-ltb a count t) ∙ cond-true _ _ _ (lt-ltb count limit u)))))
-          | inr u ↦ ap (λ (q : OrderRefusal). Err q) (same d Full (sym was ∙ (e ∙ full_is t u))) ∙ full_answer t u
-        ]
-        | inr t ↦ ap (λ (q : OrderRefusal). Err q) (same d UnknownItem (sym was ∙ (e ∙ cond-false _ _ _ (le-ltb a count t)))) ∙ unknown_answer t
+        | inr t ↦ absurd (apart UnknownItem (sym (cond-false _ _ _ (le-ltb a count t)) ∙ e))
       ]

@@ -3,11 +3,15 @@ pub mod Rows
 pub mod Looks
 pub mod Insert
 pub mod Marked
+pub mod Chains
 pub mod Walks
-pub mod Progress
 pub mod Linking
+pub mod Progress
 pub mod Relabel
 pub mod Numbered
 pub mod Open
+pub mod Tables
 pub mod Fresh
 pub mod Replies
+pub mod Passing
+pub mod Held

@@ -3,7 +3,7 @@ use Rattle.std.proofs.Common.{◌≡◌, ℕ, suc, ◌≤◌, true, false, ltb, 
 use Rattle.std.proofs.lemmas.Bool.{cases_Bool, eq-eqb, ne_eqb, lt-ltb, le-ltb, false≢true}
 use Rattle.linked_lists.specs.Chain.{Linked, Above}
 use Rattle.order.proofs.Members.{member_cases, earlier_member}
-use Rattle.order.specs.Items.{Distinct, member, earlier, following, front}
+use Rattle.order.specs.Items.{member, earlier, following, front}
 
 pub member_above : (lab : ℕ → ℕ) (lo : ℕ) (xs : List ℕ) (a : ℕ) → Above lab lo xs → member xs a ≡ true → lo ≤ lab a
 member_above lab lo [] a h m = absurd (false≢true m)
@@ -48,9 +48,3 @@ linked_following f o (x ∷ xs) a h m =
       | inl e ↦ simp (eq-eqb x a e) (ap f (sym e) ∙ linked_first f (f x) xs h.1)
       | inr n ↦ simp (ne_eqb x a n.0) (linked_following f (f x) xs a h.1 n.1)
     ]
-
--- where labels rise, no item stands twice
-pub above_distinct : (lab : ℕ → ℕ) (lo : ℕ) (xs : List ℕ) → Above lab lo xs → Distinct xs
-above_distinct lab lo [] h = tt
-above_distinct lab lo (x ∷ xs) h =
-    (gone xs x (λ m. let u = member_above lab (suc (lab x)) xs x h.1 m in omega arith), above_distinct lab (suc (lab x)) xs h.1)

@@ -1,10 +1,12 @@
 -- Items with their labels: what the list-level definitions read of the links and labels.
-use Rattle.std.proofs.Common.{◌≡◌, ℕ, suc, true, List, [], ◌∷◌, Option, sym, refl, ap, ◌∙◌, inl, inr}
+use Rattle.std.proofs.Common.{◌≡◌, ℕ, suc, ◌<◌, true, List, [], ◌∷◌, Some, Option, sym, refl, ap, ◌∙◌, inl, inr}
 use Rattle.std.proofs.lemmas.Bool.{cases_eq, eq-eqb, ne_eqb, false≢true}
 use Rattle.labels.specs.Laws.{Rising}
 use Rattle.labels.specs.Labels.{marked, items_of, label_of, next_label, head_label, placed}
+use Rattle.linked_lists.proofs.Chains.{Chained}
 use Rattle.linked_lists.proofs.Insert.{end_of}
-use Rattle.linked_lists.specs.Chain.{Linked, Above}
+use Rattle.linked_lists.specs.Chain.{Linked, Above, listed, labelled, label_at, next_at}
+use Rattle.linked_lists.specs.declared.row.Row.{Row}
 use Rattle.order.proofs.Members.{member_cases, member_here, member_there}
 use Rattle.order.specs.Items.{member, behind}
 
@@ -54,3 +56,9 @@ above_rising lab lo (x ∷ xs) h = (h.0, above_rising lab (suc (lab x)) xs h.1)
 pub rising_above : (lab : ℕ → ℕ) (lo : ℕ) (xs : List ℕ) → Rising lo (marked lab xs) → Above lab lo xs
 rising_above lab lo [] h = h
 rising_above lab lo (x ∷ xs) h = (h.0, rising_above lab (suc (lab x)) xs h.1)
+
+-- the label behind an item, o being the link that leads there
+pub next_label_is : (rows : List (Row ℕ)) (n a : ℕ) (o : Option ℕ) → Chained rows (label_at rows) n → a < n → next_at rows a ≡ o →
+    next_label (labelled rows n) a ≡ end_of (label_at rows) o
+next_label_is rows n a o ch h e =
+    next_marked (next_at rows) (label_at rows) (Some 0) (listed rows n) a ch.links.linked (ch.links.known a h) ∙ ap (end_of (label_at rows)) e

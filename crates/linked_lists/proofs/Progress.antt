@@ -1,13 +1,15 @@
 -- The loop that spreads labels: what it has done, and what is left.
-use Rattle.std.proofs.Common.{◌≡◌, ℕ, zero, suc, ◌+◌, ◌*◌, ◌/◌, ◌<◌, ◌≤◌, true, false, ◌⊎◌, List, [], ◌∷◌, ◌++◌, length, get_or, set, Some, None, Option, sym, refl, ap, ◌∙◌, subst, inl, inr, append_assoc, arith}
-use Rattle.std.proofs.lemmas.Bool.{cases_eq, cases_lt, cases_Bool, le-leb, lt-leb, false≢true, both_ways}
-use Rattle.std.proofs.lemmas.List.{get_or-set_same, get_or-set_other, length-set, map-append, get_or_read}
+use Rattle.std.proofs.Common.{◌≡◌, ℕ, suc, ◌+◌, ◌*◌, ◌/◌, ◌<◌, ◌≤◌, true, false, ◌⊎◌, List, [], ◌∷◌, ◌++◌, length, Some, None, Option, sym, refl, ap, ◌∙◌, subst, inl, inr, append_assoc, arith}
+use Rattle.std.proofs.lemmas.Bool.{cases_lt, cases_Bool, le-leb, lt-leb, false≢true, both_ways}
+use Rattle.std.proofs.lemmas.List.{length-set, map-append}
 use Rattle.labels.proofs.Spreading.{in_range_lem, below_range, past_count}
 use Rattle.labels.specs.Labels.{Entries, count_in, in_range, spread, marked}
 use Rattle.labels.specs.Ranges.{first_from, Loose}
 use Rattle.linked_lists.proofs.Marked.{marked_same}
-use Rattle.linked_lists.proofs.Walks.{same_some}
-use Rattle.linked_lists.specs.Chain.{Linked, walk, listed, labelled, label_at, next_at, prev_at, blank}
+use Rattle.linked_lists.proofs.Linking.{next_retagged}
+use Rattle.linked_lists.proofs.Rows.{field_same, field_other}
+use Rattle.linked_lists.proofs.Insert.{same_some, walk_same}
+use Rattle.linked_lists.specs.Chain.{Linked, listed, labelled, label_at, next_at, retagged}
 use Rattle.linked_lists.specs.Ranges.{Spreadable}
 use Rattle.linked_lists.specs.declared.range.Range.{Range}
 use Rattle.linked_lists.specs.declared.row.Row.{Row}
@@ -23,13 +25,12 @@ none_spread base size m j (e ∷ es) c =
     ]
 
 -- the rows R', once j items of the range have their new labels, from the rows R
-pub record Progress (R R' : List Row) (n base size m j : ℕ) (next : Option ℕ) : Type 0 where
+pub record Progress (R R' : List (Row ℕ)) (n base size m j : ℕ) (next : Option ℕ) : Type 0 where
   pub did : List ℕ
   pub rest : List ℕ
   pub whole : listed R n ≡ did ++ rest
   pub linked : Linked (next_at R) next rest
   pub nexts : (x : ℕ) → next_at R' x ≡ next_at R x
-  pub prevs : (x : ℕ) → prev_at R' x ≡ prev_at R x
   pub long : length R' ≡ length R
   pub fresh : marked (label_at R') did ++ spread base size m j (marked (label_at R) rest) ≡ spread base size m 0 (labelled R n)
   pub old : (x : ℕ) → member rest x ≡ true → label_at R' x ≡ label_at R x
@@ -42,7 +43,7 @@ pub record Progress (R R' : List Row) (n base size m j : ℕ) (next : Option ℕ
   pub within : (x : ℕ) → member rest x ≡ true → x < n
 
 -- the part before the range, and from its first item on
-begins : (R : List Row) (base size m : ℕ) (o : Option ℕ) (lo : ℕ) (xs : List ℕ) → Linked (next_at R) o xs → Loose base size lo (marked (label_at R) xs) → Distinct xs →
+begins : (R : List (Row ℕ)) (base size m : ℕ) (o : Option ℕ) (lo : ℕ) (xs : List ℕ) → Linked (next_at R) o xs → Loose base size lo (marked (label_at R) xs) → Distinct xs →
     0 < count_in base size (marked (label_at R) xs) →
     (did : List ℕ) × ((rest : List ℕ) × ((xs ≡ did ++ rest)
     × (Linked (next_at R) (Some (first_from base (marked (label_at R) xs))) rest
@@ -94,7 +95,7 @@ begins R base size m o lo (z ∷ zs) h l d c =
           ([], (z ∷ zs, (refl, ((ap (λ (k : ℕ). Some k) f, h.1), (refl, ((λ x md mr. absurd (false≢true md)), (d, ((t, l.1), (refl, λ x k. k)))))))))
     ]
 
-pub progress_start : (R : List Row) (n : ℕ) (r : Range) → Spreadable R n r → Progress R R n r.base r.size r.crowd 0 (Some r.first)
+pub progress_start : (R : List (Row ℕ)) (n : ℕ) (r : Range) → Spreadable R n r → Progress R R n r.base r.size r.crowd 0 (Some r.first)
 progress_start R n r s =
     let c : 0 < count_in r.base r.size (marked (label_at R) (listed R n)) = let f = s.full in let p = s.some in omega arith in
     let b = begins R r.base r.size r.crowd (Some 0) 0 (listed R n) s.linked s.loose s.distinct c in
@@ -104,7 +105,6 @@ progress_start R n r s =
       whole = b.1.1.0;
       linked = subst (λ (k : ℕ). Linked (next_at R) (Some k) b.1.0) (sym s.starts) b.1.1.1.0;
       nexts = λ x. refl;
-      prevs = λ x. refl;
       long = refl;
       fresh = b.1.1.1.1.0;
       old = λ x m. refl;
@@ -117,7 +117,7 @@ progress_start R n r s =
       within = λ x m. s.within x (b.1.1.1.1.1.1.1.1.1 x m);
     }
 
-module _ (R R' : List Row) (n base size m j : ℕ) where
+module _ (R R' : List (Row ℕ)) (n base size m j : ℕ) where
   -- the next item to be labelled
   pub progress_known : (x : ℕ) (o : Option ℕ) → Progress R R' n base size m j o → o ≡ Some x → x < n
   progress_known x o p e = go p.rest p.linked p.within
@@ -143,43 +143,27 @@ module _ (R R' : List Row) (n base size m j : ℕ) where
     v : ℕ
     v = base + (j * size) / m
 
-    row : Row
-    row = record { label = v; next = next_at R' x; prev = prev_at R' x }
-
-    R'' : List Row
-    R'' = set R' x row
+    R'' : List (Row ℕ)
+    R'' = retagged R' x v
 
     xn : x < length R'
     xn = let k = progress_known x o p is in let l = p.long in omega arith
 
-    at_x : get_or R'' x blank ≡ row
-    unfolding R''
-    at_x = get_or-set_same R' x row blank xn
-
-    at_y : (y : ℕ) → (y ≡ x → ⊥) → get_or R'' y blank ≡ get_or R' y blank
-    unfolding R''
-    at_y y d = get_or-set_other R' x y row blank d
-
     nexts'' : (y : ℕ) → next_at R'' y ≡ next_at R' y
-    unfolding row
-    nexts'' y = elim (cases_eq y x)
-        [ inl e ↦ subst (λ (k : ℕ). next_at R'' k ≡ next_at R' k) (sym e) (ap (λ (r : Row). r.next) at_x) | inr d ↦ ap (λ (r : Row). r.next) (at_y y d) ]
-
-    prevs'' : (y : ℕ) → prev_at R'' y ≡ prev_at R' y
-    unfolding row
-    prevs'' y = elim (cases_eq y x)
-        [ inl e ↦ subst (λ (k : ℕ). prev_at R'' k ≡ prev_at R' k) (sym e) (ap (λ (r : Row). r.prev) at_x) | inr d ↦ ap (λ (r : Row). r.prev) (at_y y d) ]
+    unfolding R''
+    nexts'' = next_retagged R' x v xn
 
     label_x : label_at R'' x ≡ v
-    unfolding row
-    label_x = ap (λ (r : Row). r.label) at_x
+    unfolding R''
+    label_x = field_same (λ (r : Row ℕ). r.tag) 0 R' x _ xn
 
     label_y : (y : ℕ) → (y ≡ x → ⊥) → label_at R'' y ≡ label_at R' y
-    label_y y d = ap (λ (r : Row). r.label) (at_y y d)
+    unfolding R''
+    label_y y d = field_other (λ (r : Row ℕ). r.tag) 0 R' x y _ d
 
     more_long : length R'' ≡ length R
     unfolding R''
-    more_long = length-set R' x row ∙ p.long
+    more_long = length-set R' x _ ∙ p.long
 
     first : (y : ℕ) (ys : List ℕ) → in_range base size (label_at R y) ≡ true →
         marked (label_at R') p.did ++ spread base size m j (marked (label_at R) (y ∷ ys)) ≡ spread base size m 0 (labelled R n) →
@@ -234,7 +218,6 @@ module _ (R R' : List Row) (n base size m j : ℕ) where
           whole = whole ∙ sym (append_assoc p.did (y ∷ []) ys);
           linked = subst (λ (k : ℕ). Linked (next_at R) (next_at R k) ys) e linked.1;
           nexts = λ i. nexts'' i ∙ p.nexts i;
-          prevs = λ i. prevs'' i ∙ p.prevs i;
           long = more_long;
           fresh = joined y ys e same fresh';
           old = λ i k. label_y i (λ d. both_ways (member ys y) distinct.0 (subst (λ (q : ℕ). member ys q ≡ true) (d ∙ sym e) k)) ∙ old i (member_there y ys i k);
@@ -250,32 +233,21 @@ module _ (R R' : List Row) (n base size m j : ℕ) where
           within = λ i k. within i (member_there y ys i k);
         }
 
-    pub progress_more : Progress R (set R' x (record { label = base + (j * size) / m; next = next_at R' x; prev = prev_at R' x })) n base size m (j + 1) (next_at R x)
-    unfolding R'' row v
+    progress_more : Progress R (retagged R' x (base + (j * size) / m)) n base size m (j + 1) (next_at R x)
+    unfolding R'' v
     progress_more = step p.rest p.whole p.linked p.fresh p.old p.apart p.distinct p.loose p.counted p.within
 
-    -- with the rows as the code reads them
-    pub progress_code : (r t : Row) → r ≡ get_or R' x r → t ≡ get_or (set R' x (record { label = base + (j * size) / m; next = r.next; prev = r.prev })) x t →
-        Progress R (set R' x (record { label = base + (j * size) / m; next = r.next; prev = r.prev })) n base size m (j + 1) t.next
-    progress_code r t e g =
-        let is' : r ≡ get_or R' x blank = get_or_read R' x r xn e blank in
-        let en : r.next ≡ next_at R' x = ap (λ (q : Row). q.next) is' in
-        let ep : r.prev ≡ prev_at R' x = ap (λ (q : Row). q.prev) is' in
-        let w : Row = record { label = base + (j * size) / m; next = r.next; prev = r.prev } in
-        let same : w ≡ record { label = base + (j * size) / m; next = next_at R' x; prev = prev_at R' x } = cc in
-        let wide : x < length (set R' x w) = let k = xn in let l = length-set R' x w in omega arith in
-        let tn : t.next ≡ next_at R x =
-        ap (λ (q : Row). q.next) (get_or_read (set R' x w) x t wide g blank ∙ get_or-set_same R' x w blank xn) ∙ (en ∙ p.nexts x) in
-        subst (λ (o' : Option ℕ). Progress R (set R' x w) n base size m (j + 1) o') (sym tn)
-        (subst (λ (q : Row). Progress R (set R' x q) n base size m (j + 1) (next_at R x)) (sym same) progress_more)
+    -- with the rows F and the link as the code has them
+    pub progress_code : (F : List (Row ℕ)) (next : Option ℕ) → F ≡ retagged R' x (base + (j * size) / m) → next ≡ next_at F x →
+        Progress R F n base size m (j + 1) next
+    progress_code F next e g =
+        let to : next ≡ next_at R x = g ∙ (ap (λ (G : List (Row ℕ)). next_at G x) e ∙ (next_retagged R' x (base + (j * size) / m) xn x ∙ p.nexts x)) in
+        subst (λ (o' : Option ℕ). Progress R F n base size m (j + 1) o') (sym to)
+        (subst (λ (G : List (Row ℕ)). Progress R G n base size m (j + 1) (next_at R x)) (sym e) progress_more)
 
-pub walk_same : (f g : ℕ → Option ℕ) (k : ℕ) (o : Option ℕ) → ((x : ℕ) → g x ≡ f x) → walk g k o ≡ walk f k o
-walk_same f g zero o e = refl
-walk_same f g (suc k) None e = refl
-walk_same f g (suc k) (Some i) e =
-    ap (λ (l : List ℕ). i ∷ l) (ap (walk g k) (e i) ∙ walk_same f g k (f i) e)
+module _ (R R' : List (Row ℕ)) (n base size m j : ℕ) (o : Option ℕ) (p : Progress R R' n base size m j o) where
+  pub progress_items : listed R' n ≡ listed R n
+  progress_items = walk_same (next_at R) (next_at R') n (Some 0) p.nexts
 
-pub progress_labels : (R R' : List Row) (n base size m j : ℕ) (o : Option ℕ) → Progress R R' n base size m j o → (m ≤ j) ⊎ (o ≡ None) →
-    labelled R' n ≡ spread base size m 0 (labelled R n)
-progress_labels R R' n base size m j o p e =
-    ap (marked (label_at R')) (walk_same (next_at R) (next_at R') n (Some 0) p.nexts) ∙ progress_end R R' n base size m j o p e
+  pub progress_labels : (m ≤ j) ⊎ (o ≡ None) → labelled R' n ≡ spread base size m 0 (labelled R n)
+  progress_labels e = ap (marked (label_at R')) progress_items ∙ progress_end R R' n base size m j o p e

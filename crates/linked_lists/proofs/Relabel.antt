@@ -1,37 +1,23 @@
 -- One item more, near or with new labels: the chain stands, and its entries are those of the definitions.
-use Rattle.std.proofs.Common.{◌≡◌, ℕ, suc, ◌+◌, ◌-◌, ◌/◌, ◌^◌, ◌<◌, ◌≤◌, true, leb, List, [], ◌∷◌, length, Some, None, Option, sym, refl, ap, ◌∙◌, subst, inl, inr, arith}
-use Rattle.std.proofs.lemmas.Bool.{cases_eq, eq-eqb, ne_eqb, le-leb, lt-leb, false≢true, both_ways, cond-true, cond-false}
+use Rattle.std.proofs.Common.{◌≡◌, ℕ, suc, ◌+◌, ◌-◌, ◌/◌, ◌^◌, ◌<◌, ◌≤◌, true, leb, List, [], ◌∷◌, length, Some, Option, sym, refl, ap, ◌∙◌, subst, inl, inr, arith}
+use Rattle.std.proofs.lemmas.Bool.{cases_eq, eq-eqb, ne_eqb, le-leb, lt-leb, false≢true, cond-true, cond-false}
 use Rattle.labels.proofs.Spreading.{loose_placed, count_placed, spread_rising}
 use Rattle.labels.proofs.Widening.{width_fits, capacity_le, base_le, below_base, base_top}
 use Rattle.labels.specs.Capacity.{capacity}
 use Rattle.labels.specs.Labels.{Entries, count_in, spread, placed, label_of, next_label, base_of, crowd, width, relabelled, inserted, inserted_by, marked}
 use Rattle.labels.specs.Laws.{Rising}
 use Rattle.labels.specs.Ranges.{first_from, Loose}
-use Rattle.linked_lists.proofs.Insert.{linked_same, backed_same, end_of}
-use Rattle.linked_lists.proofs.Linking.{links_behind, listed_linked, label_x, label_n, chained_linked, next_fits, length_linked}
-use Rattle.linked_lists.proofs.Looks.{above_distinct, gone}
+use Rattle.linked_lists.proofs.Chains.{Chained, Rising as RisingTable, chained}
+use Rattle.linked_lists.proofs.Insert.{end_of}
+use Rattle.linked_lists.proofs.Linking.{listed_linked, links_linked, rising_linked, tag_x, tag_n, next_fits}
 use Rattle.linked_lists.proofs.Marked.{unmark, label_marked, next_marked, marked_behind, above_rising, rising_above}
-use Rattle.linked_lists.proofs.Progress.{walk_same}
 use Rattle.linked_lists.proofs.Walks.{label_top, length_labelled}
-use Rattle.linked_lists.specs.Chain.{Linked, Above, Chain, Chained, listed, labelled, label_at, next_at, prev_at, linked_rows}
+use Rattle.linked_lists.specs.Chain.{Linked, Above, listed, labelled, label_at, next_at, linked_rows}
 use Rattle.linked_lists.specs.Ranges.{Spreadable, Around}
 use Rattle.linked_lists.specs.declared.range.Range.{Range}
 use Rattle.linked_lists.specs.declared.row.Row.{Row}
-use Rattle.order.proofs.Members.{member_cases, member_behind_cases}
-use Rattle.order.specs.Items.{member, behind, Distinct}
-
-pub distinct_behind : (xs : List ℕ) (a n : ℕ) → (member xs n ≡ true → ⊥) → Distinct xs → Distinct (behind xs a n)
-distinct_behind [] a n new d = tt
-distinct_behind (x ∷ xs) a n new d =
-    let xn : n ≡ x → ⊥ = λ e. new (simp (eq-eqb x n (sym e))) in
-    let rest : member xs n ≡ true → ⊥ = λ m. new (elim (cases_eq x n) [ inl e ↦ simp (eq-eqb x n e) | inr k ↦ simp (ne_eqb x n k) m ]) in
-    elim (cases_eq x a) [
-      | inl e ↦ simp (eq-eqb x a e) ((simp (ne_eqb n x xn) d.0), (gone xs n rest, d.1))
-      | inr k ↦ simp (ne_eqb x a k) (
-        gone (behind xs a n) x (λ m. elim (member_behind_cases xs a n x m) [ inl e ↦ xn e | inr q ↦ both_ways (member xs x) d.0 q ]),
-        distinct_behind xs a n rest d.1,
-      )
-    ]
+use Rattle.order.proofs.Members.{member_cases}
+use Rattle.order.specs.Items.{member, behind}
 
 first_placed : (base : ℕ) (es : Entries) (a n l : ℕ) → label_of es a ≡ l → base ≤ l → first_from base (placed es a n l) ≡ first_from base es
 first_placed base [] a n l e b = refl
@@ -54,7 +40,7 @@ above_next f lab o lo (x ∷ xs) a h ab m =
     go o [] h ab = subst (λ (q : Option ℕ). lab x < end_of lab q) (sym h) ab
     go o (y ∷ ys) h ab = subst (λ (q : Option ℕ). lab x < end_of lab q) (sym h.0) ab.0
 
-module _ (R : List Row) (n a : ℕ) (ch : Chained R n) (ha : a < n) (hn : n < length R) where
+module _ (R : List (Row ℕ)) (n a : ℕ) (ch : Chained R (label_at R) n) (ha : a < n) (hn : n < length R) where
   es : Entries
   es = labelled R n
 
@@ -62,31 +48,33 @@ module _ (R : List Row) (n a : ℕ) (ch : Chained R n) (ha : a < n) (hn : n < le
   l = label_at R a
 
   pub label_is : label_of (labelled R n) a ≡ label_at R a
-  label_is = label_marked (label_at R) (listed R n) a (ch.known a ha)
+  label_is = label_marked (label_at R) (listed R n) a (ch.links.known a ha)
 
   pub next_is : next_label (labelled R n) a ≡ end_of (label_at R) (next_at R a)
-  next_is = next_marked (next_at R) (label_at R) (Some 0) (listed R n) a ch.linked (ch.known a ha)
+  next_is = next_marked (next_at R) (label_at R) (Some 0) (listed R n) a ch.links.linked (ch.links.known a ha)
 
   pub label_below : label_at R a < next_label (labelled R n) a
   label_below =
-      subst (λ (k : ℕ). label_at R a < k) (sym next_is) (above_next (next_at R) (label_at R) (Some 0) 0 (listed R n) a ch.linked ch.rising (ch.known a ha))
+      subst (λ (k : ℕ). label_at R a < k) (sym next_is) (above_next (next_at R) (label_at R) (Some 0) 0 (listed R n) a ch.links.linked ch.rising (ch.links.known a ha))
 
   new : member (listed R n) n ≡ true → ⊥
-  new m = let h = ch.within n m in omega arith
+  new m = let h = ch.links.within n m in omega arith
 
   -- the entries once n was linked behind a with the label v
   pub linked_labels : (v : ℕ) → labelled (linked_rows R a n v) (n + 1) ≡ placed (labelled R n) a n v
   linked_labels v =
-      ap (marked (label_at (linked_rows R a n v))) (listed_linked R a n v ha hn (next_fits R n a ch ha) ch)
+      ap (marked (label_at (linked_rows R a n v))) (listed_linked R a n v ha hn (next_fits R n a ch.links ha) ch.links)
       ∙ marked_behind (label_at R) (label_at (linked_rows R a n v)) (listed R n) a n v
-      (λ x m. label_x R a n v ha hn (next_fits R n a ch ha) x (λ e. new (subst (λ (k : ℕ). member (listed R n) k ≡ true) e m)))
-      (label_n R a n v ha hn (next_fits R n a ch ha))
+      (λ x m. tag_x R a n v ha hn (next_fits R n a ch.links ha) 0 x (λ e. new (subst (λ (k : ℕ). member (listed R n) k ≡ true) e m)))
+      (tag_n R a n v ha hn (next_fits R n a ch.links ha) 0)
 
   pub linked_items : (v : ℕ) → listed (linked_rows R a n v) (n + 1) ≡ behind (listed R n) a n
-  linked_items v = listed_linked R a n v ha hn (next_fits R n a ch ha) ch
+  linked_items v = listed_linked R a n v ha hn (next_fits R n a ch.links ha) ch.links
 
-  pub linked_chain : (v : ℕ) → label_at R a < v → v < next_label (labelled R n) a → Chained (linked_rows R a n v) (n + 1)
-  linked_chain v lower upper = chained_linked R a n v ha hn (next_fits R n a ch ha) ch lower (subst (λ (k : ℕ). v < k) next_is upper)
+  pub linked_rising : (v : ℕ) → label_at R a < v → v < next_label (labelled R n) a → Above (label_at (linked_rows R a n v)) 0 (listed (linked_rows R a n v) (n + 1))
+  linked_rising v lower upper =
+      rising_linked R a n v ha hn (next_fits R n a ch.links ha) ch.links (label_at R) (label_at (linked_rows R a n v)) v
+      (tag_x R a n v ha hn (next_fits R n a ch.links ha) 0) (tag_n R a n v ha hn (next_fits R n a ch.links ha) 0) lower (subst (λ (k : ℕ). v < k) next_is upper) ch.rising
 
   -- the definition of `inserted`, near and far
   pub after_near : (e : ℕ) → e ≡ next_label (labelled R n) a → 2 ≤ e - label_at R a → inserted (labelled R n) a n ≡ placed (labelled R n) a n (label_at R a + (e - label_at R a) / 2)
@@ -142,7 +130,7 @@ module _ (R : List Row) (n a : ℕ) (ch : Chained R n) (ha : a < n) (hn : n < le
 
     counts : count_in r.base r.size (placed (labelled R n) a n (label_at R a)) ≡ r.crowd
     counts =
-        count_placed r.base r.size (labelled R n) a n (label_at R a) (subst (λ (ys : List ℕ). member ys a ≡ true) (sym (unmark (label_at R) (listed R n))) (ch.known a ha)) low high
+        count_placed r.base r.size (labelled R n) a n (label_at R a) (subst (λ (ys : List ℕ). member ys a ≡ true) (sym (unmark (label_at R) (listed R n))) (ch.links.known a ha)) low high
         ∙ let e = at_i in let w = wide_i in let f = full_i in cc
 
     loose : Loose r.base r.size 0 (placed (labelled R n) a n (label_at R a))
@@ -150,13 +138,12 @@ module _ (R : List Row) (n a : ℕ) (ch : Chained R n) (ha : a < n) (hn : n < le
 
     pub spreadable : Spreadable (linked_rows R a n (label_at R a)) (n + 1) r
     spreadable =
-        let q = links_behind R a n (label_at R a) ha hn (next_fits R n a ch ha) ch in
-        let xs = linked_items (label_at R a) in
+        let ls = links_linked R a n (label_at R a) ha hn (next_fits R n a ch.links ha) ch.links in
         let en = linked_labels (label_at R a) in
         record {
-          linked = subst (λ (ys : List ℕ). Linked (next_at (linked_rows R a n (label_at R a))) (Some 0) ys) (sym xs) q.linked;
-          within = λ x m. let h = q.within x (subst (λ (ys : List ℕ). member ys x ≡ true) xs m) in omega arith;
-          distinct = subst Distinct (sym xs) (distinct_behind (listed R n) a n new (above_distinct (label_at R) 0 (listed R n) ch.rising));
+          linked = ls.linked;
+          within = ls.within;
+          distinct = ls.distinct;
           loose = subst (Loose r.base r.size 0) (sym en) loose;
           starts = starts_i ∙ (ap (λ (k : ℕ). first_from k (labelled R n)) (sym at_i) ∙ (sym (first_placed r.base (labelled R n) a n (label_at R a) label_is low) ∙ ap (first_from r.base) (sym en)));
           full = sym counts ∙ ap (count_in r.base r.size) (sym en);
@@ -165,10 +152,10 @@ module _ (R : List Row) (n a : ℕ) (ch : Chained R n) (ha : a < n) (hn : n < le
           top = top;
         }
 
-    module _ (F : List Row) (fx : (x : ℕ) → next_at F x ≡ next_at (linked_rows R a n (label_at R a)) x) (fp : (x : ℕ) → prev_at F x ≡ prev_at (linked_rows R a n (label_at R a)) x)
+    module _ (F : List (Row ℕ)) (fi : listed F (n + 1) ≡ listed (linked_rows R a n (label_at R a)) (n + 1))
         (fl : labelled F (n + 1) ≡ spread r.base r.size r.crowd 0 (labelled (linked_rows R a n (label_at R a)) (n + 1))) where
       pub spread_items : listed F (n + 1) ≡ behind (listed R n) a n
-      spread_items = walk_same (next_at (linked_rows R a n (label_at R a))) (next_at F) (n + 1) (Some 0) fx ∙ linked_items (label_at R a)
+      spread_items = fi ∙ linked_items (label_at R a)
 
       labels_placed : labelled F (n + 1) ≡ spread r.base r.size r.crowd 0 (placed (labelled R n) a n (label_at R a))
       labels_placed = fl ∙ ap (spread r.base r.size r.crowd 0) (linked_labels (label_at R a))
@@ -176,82 +163,78 @@ module _ (R : List Row) (n a : ℕ) (ch : Chained R n) (ha : a < n) (hn : n < le
       pub spread_labels : labelled F (n + 1) ≡ relabelled (labelled R n) a n (label_at R a) (width (labelled R n) (label_at R a))
       spread_labels = labels_placed ∙ (let e = around.at in let w = around.wide in let f = around.full in cc)
 
-      rising : Above (label_at F) 0 (listed F (n + 1))
-      rising =
+      pub spread_rises : Above (label_at F) 0 (listed F (n + 1))
+      spread_rises =
           rising_above (label_at F) 0 (listed F (n + 1))
           (subst (Rising 0) (sym labels_placed)
           (spread_rising r.base r.size r.crowd (let f = full_i in omega arith) fits top 0 (placed (labelled R n) a n (label_at R a)) (omega arith) loose counts))
 
-      pub spread_chain : Chained F (n + 1)
-      spread_chain =
-          let q = links_behind R a n (label_at R a) ha hn (next_fits R n a ch ha) ch in
-          subst (λ (ys : List ℕ). Chain (next_at F) (prev_at F) (label_at F) (n + 1) ys) (sym spread_items)
-          (record {
-            linked = linked_same _ (next_at F) (Some 0) (behind (listed R n) a n) (λ x m. fx x) q.linked;
-            backed = backed_same _ (prev_at F) None (behind (listed R n) a n) (λ x m. fp x) q.backed;
-            rising = subst (Above (label_at F) 0) spread_items rising;
-            long = let e = q.long in omega arith;
-            known = λ b h. q.known b (omega arith);
-            within = λ b m. let h = q.within b m in omega arith;
-          })
+-- F, of m items, is R with n put right behind a
+pub record Placed (R F : List (Row ℕ)) (n m a : ℕ) : Type 0 where
+  pub rising : Above (label_at F) 0 (listed F m)
+  pub items : listed F m ≡ behind (listed R n) a n
+  pub labels : labelled F m ≡ inserted (labelled R n) a n
 
--- F is R with n put right behind a
-pub record Placed (R F : List Row) (n a : ℕ) : Type 0 where
-  pub chain : Chained F (n + 1)
-  pub items : listed F (n + 1) ≡ behind (listed R n) a n
-  pub labels : labelled F (n + 1) ≡ inserted (labelled R n) a n
-  pub long : length F ≡ length R
+-- and the items around a have new labels
+pub record Respread (R F : List (Row ℕ)) (n m a : ℕ) : Type 0 where
+  pub rising : Above (label_at F) 0 (listed F m)
+  pub items : listed F m ≡ behind (listed R n) a n
+  pub labels : labelled F m ≡ relabelled (labelled R n) a n (label_at R a) (width (labelled R n) (label_at R a))
 
-module _ (R : List Row) (n a len : ℕ) (ch : Chained R n) (ha : a < n) (hl : n < len) (le : len ≡ length R) where
+-- as the code has it: v is the label of a that it read, and e that behind a
+module _ {R : List (Row ℕ)} {n limit : ℕ} (s : RisingTable R (label_at R) n limit) (a : ℕ) (ha : a < n) (hl : n < limit) (v : ℕ) (ve : v ≡ label_at R a) where
+  ch : Chained R (label_at R) n
+  ch = chained s
+
   hn : n < length R
-  hn = omega arith
+  hn = let r = s.table.room in omega arith
 
-  pub near : (F : List Row) (v e : ℕ) → F ≡ linked_rows R a n (v + (e - v) / 2) → v ≡ label_at R a → e ≡ next_label (labelled R n) a → 2 ≤ e - v → Placed R F n a
-  near F v e f ve ee g =
+  pub code_below : (e : ℕ) → e ≡ next_label (labelled R n) a → v < e
+  code_below e ee = let u = label_below R n a ch ha hn in omega arith
+
+  pub near : (F : List (Row ℕ)) (m e : ℕ) → F ≡ linked_rows R a n (v + (e - v) / 2) → m ≡ n + 1 → e ≡ next_label (labelled R n) a → 2 ≤ e - v → Placed R F n m a
+  near F m e f me ee g =
       let u = label_below R n a ch ha hn in
       let w : ℕ = label_at R a + (e - label_at R a) / 2 in
       let fw : linked_rows R a n w ≡ F = ap (λ (k : ℕ). linked_rows R a n (k + (e - k) / 2)) (sym ve) ∙ sym f in
       let two : 2 ≤ e - label_at R a = omega arith in
-      subst (λ (G : List Row). Placed R G n a) fw
+      subst (λ (k : ℕ). Placed R F n k a) (sym me)
+      (subst (λ (G : List (Row ℕ)). Placed R G n (n + 1) a) fw
       (record {
-        chain = linked_chain R n a ch ha hn w (omega arith) (omega arith);
+        rising = linked_rising R n a ch ha hn w (omega arith) (omega arith);
         items = linked_items R n a ch ha hn w;
         labels = linked_labels R n a ch ha hn w ∙ sym (after_near R n a ch ha hn e ee two);
-        long = length_linked R a n w ha hn (next_fits R n a ch ha);
-      })
+      }))
 
-  pub far_labels : (v e : ℕ) (es : Entries) → v ≡ label_at R a → e ≡ next_label (labelled R n) a → e - v < 2 →
+  pub far_labels : (e : ℕ) (es : Entries) → e ≡ next_label (labelled R n) a → e - v < 2 →
       es ≡ relabelled (labelled R n) a n (label_at R a) (width (labelled R n) (label_at R a)) → es ≡ inserted (labelled R n) a n
-  far_labels v e es ve ee g is = is ∙ sym (after_far R n a ch ha hn e ee (omega arith))
+  far_labels e es ee g is = is ∙ sym (after_far R n a ch ha hn e ee (omega arith))
 
-  pub code_below : (v e : ℕ) → v ≡ label_at R a → e ≡ next_label (labelled R n) a → v < e
-  code_below v e ve ee = let u = label_below R n a ch ha hn in omega arith
+  -- L, of k items, has n right behind a, with the label of a
+  module _ (r : Range) (ar : Around (labelled R n) (label_at R a) (width (labelled R n) (label_at R a)) r) (L : List (Row ℕ)) (k : ℕ)
+      (f : L ≡ linked_rows R a n v) (ke : k ≡ n + 1) where
+    few : n ≤ 4096
+    few = let m = s.table.small in omega arith
 
-  pub code_spreadable : (L : List Row) (v : ℕ) (r : Range) → L ≡ linked_rows R a n v → v ≡ label_at R a → n ≤ 4096 →
-      Around (labelled R n) (label_at R a) (width (labelled R n) (label_at R a)) r → Spreadable L (n + 1) r
-  code_spreadable L v r f ve few ar =
-      subst (λ (G : List Row). Spreadable G (n + 1) r) (ap (linked_rows R a n) (sym ve) ∙ sym f) (spreadable R n a ch ha hn few r ar)
+    l_is : L ≡ linked_rows R a n (label_at R a)
+    l_is = f ∙ ap (linked_rows R a n) ve
 
-  pub code_long : (L : List Row) (v : ℕ) → L ≡ linked_rows R a n v → length L ≡ length R
-  code_long L v f = ap length f ∙ length_linked R a n v ha hn (next_fits R n a ch ha)
+    linked : {A : Type 0} (of : List (Row ℕ) → ℕ → A) → of L k ≡ of (linked_rows R a n (label_at R a)) (n + 1)
+    linked of = ap (λ (G : List (Row ℕ)). of G k) l_is ∙ ap (of (linked_rows R a n (label_at R a))) ke
 
-  pub record Respread (F : List Row) : Type 0 where
-    pub chain : Chained F (n + 1)
-    pub items : listed F (n + 1) ≡ behind (listed R n) a n
-    pub labels : labelled F (n + 1) ≡ relabelled (labelled R n) a n (label_at R a) (width (labelled R n) (label_at R a))
+    pub code_spreadable : Spreadable L k r
+    code_spreadable =
+        subst (λ (i : ℕ). Spreadable L i r) (sym ke) (subst (λ (G : List (Row ℕ)). Spreadable G (n + 1) r) (sym l_is) (spreadable R n a ch ha hn few r ar))
 
-  pub code_spread : (L F : List Row) (v : ℕ) (r : Range) → L ≡ linked_rows R a n v → v ≡ label_at R a → n ≤ 4096 →
-      Around (labelled R n) (label_at R a) (width (labelled R n) (label_at R a)) r →
-      ((x : ℕ) → next_at F x ≡ next_at L x) → ((x : ℕ) → prev_at F x ≡ prev_at L x) →
-      labelled F (n + 1) ≡ spread r.base r.size r.crowd 0 (labelled L (n + 1)) → Respread F
-  code_spread L F v r f ve few ar fx fp fl =
-      let e : L ≡ linked_rows R a n (label_at R a) = f ∙ ap (linked_rows R a n) ve in
-      let gx : (x : ℕ) → next_at F x ≡ next_at (linked_rows R a n (label_at R a)) x = λ x. fx x ∙ ap (λ (G : List Row). next_at G x) e in
-      let gp : (x : ℕ) → prev_at F x ≡ prev_at (linked_rows R a n (label_at R a)) x = λ x. fp x ∙ ap (λ (G : List Row). prev_at G x) e in
-      let gl : labelled F (n + 1) ≡ spread r.base r.size r.crowd 0 (labelled (linked_rows R a n (label_at R a)) (n + 1)) =
-      fl ∙ ap (λ (G : List Row). spread r.base r.size r.crowd 0 (labelled G (n + 1))) e in
-      record {
-        chain = spread_chain R n a ch ha hn few r ar F gx gp gl;
-        items = spread_items R n a ch ha hn few r ar F gx gp gl;
-        labels = spread_labels R n a ch ha hn few r ar F gx gp gl;
-      }
+    pub code_spread : (F : List (Row ℕ)) (m : ℕ) → m ≡ k → listed F m ≡ listed L k → labelled F m ≡ spread r.base r.size r.crowd 0 (labelled L k) → Respread R F n m a
+    code_spread F m me fi fl =
+        let mn : m ≡ n + 1 = me ∙ ke in
+        let gi : listed F (n + 1) ≡ listed (linked_rows R a n (label_at R a)) (n + 1) = ap (listed F) (sym mn) ∙ (fi ∙ linked listed) in
+        let gl : labelled F (n + 1) ≡ spread r.base r.size r.crowd 0 (labelled (linked_rows R a n (label_at R a)) (n + 1)) =
+        ap (labelled F) (sym mn) ∙ (fl ∙ ap (spread r.base r.size r.crowd 0) (linked labelled)) in
+        subst (λ (i : ℕ). Respread R F n i a) (sym mn)
+        (record {
+          rising = spread_rises R n a ch ha hn few r ar F gi gl;
+          items = spread_items R n a ch ha hn few r ar F gi gl;
+          labels = spread_labels R n a ch ha hn few r ar F gi gl;
+        })

@@ -1,3 +1,4 @@
 pub mod Decisions
 pub mod Chain
 pub mod Ranges
+pub mod Passing

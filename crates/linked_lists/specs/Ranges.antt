@@ -18,7 +18,7 @@ pub record Around (es : Entries) (l i : ℕ) (r : Range) : Type 0 where
   pub full : r.crowd ≡ crowd es l i
 
 -- rows of n items of which those in r are to be spread over it
-pub record Spreadable (rows : List Row) (n : ℕ) (r : Range) : Type 0 where
+pub record Spreadable (rows : List (Row ℕ)) (n : ℕ) (r : Range) : Type 0 where
   pub linked : Linked (next_at rows) (Some 0) (listed rows n)
   pub within : (x : ℕ) → member (listed rows n) x ≡ true → x < n
   pub distinct : Distinct (listed rows n)

@@ -1,5 +1,8 @@
-// Tables of rows that form a labelled, doubly linked list: what they mean, and what each write to them leaves.
+// Tables of rows that form a doubly linked list, whatever their items carry: what they mean, and what each write to them leaves.
 #![tactic(auto)]
 
+mod links;
 pub mod range;
+pub mod refusing;
 pub mod row;
+pub mod table;

@@ -1,7 +1,8 @@
-// One row of a relabelled list's table: the item's label and its neighbours.
+// One row of a doubly linked list that lies in a table: what its item carries, and the item's neighbours.
+// The neighbours are numbers of rows, not boxes: the table is given at making, and no call takes memory.
 #[derive(Clone, Copy, Drop)]
-pub struct Row {
-    pub label: u32,
+pub struct Row<T> {
+    pub tag: T,
     pub next: Option<u32>,
     pub prev: Option<u32>,
 }

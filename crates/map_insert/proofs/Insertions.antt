@@ -1,28 +1,13 @@
 -- Rows with a computed register or side, and one level of an insertion.
-use Rattle.std.proofs.Common.{◌≡◌, ℕ, suc, ◌+◌, ◌-◌, ◌<◌, ◌≤◌, Bool, cond, not, Err, Result, refl, ap, subst, arith}
+use Rattle.std.proofs.Common.{◌≡◌, ℕ, suc, ◌-◌, ◌<◌, Bool, cond, not, Result, ap, arith}
 use mathlib.Core.Path.{subst⁻¹}
 use Rattle.refusals.specs.declared.kinds.MemoryRefusal.{MemoryRefusal}
-use Rattle.refusals.specs.declared.kinds.MemoryRefusal.TheVariants.{OutOfRange}
 use Rattle.memory.specs.Memory.{Memory}
-use Rattle.memory.specs.Steps.{Done, no, then, follow_of, key_of, nil_of, make_of}
-use Rattle.memory.specs.Promises.{Meets, Comes}
+use Rattle.memory.specs.Steps.{Done, then, follow_of, key_of, nil_of, make_of}
+use Rattle.memory.specs.Promises.{Comes}
 use Rattle.stored.specs.Stored.{side}
 use Rattle.stored.specs.Writes.{relink_of}
 use Rattle.map_steps.specs.Insert.{insert_fix_of, insert_step_of, insert_of}
-
-pub next : (d : ℕ) → d + 1 ≡ suc d
-next d = omega arith
-
--- a call at a number that equals the row's
-pub via_call : {S A : Type 0} {P : S → Memory → Type 0} {s s' : S} {r : Result A MemoryRefusal} {x y : ℕ} (f : ℕ → Memory → Done A) → x ≡ y → ((m : Memory) → P s m → Meets P s s' r (f x m)) → (m : Memory) → P s m → Meets P s s' r (f y m)
-via_call {P = P} {s = s} {s' = s'} {r = r} f e h m p = subst (λ (n : ℕ). Meets P s s' r (f n m)) e (h m p)
-
-pub via_run : {S A : Type 0} {P : S → Memory → Type 0} {s s' : S} {r : Result A MemoryRefusal} {x y : ℕ} (f : ℕ → Memory → Done A) → x ≡ y → ((m : Memory) → P s m → Comes P s' r (f x m)) → (m : Memory) → P s m → Comes P s' r (f y m)
-via_run {P = P} {s' = s'} {r = r} f e h m p = subst (λ (n : ℕ). Comes P s' r (f n m)) e (h m p)
-
--- the same at a side
-pub via_side : {S A : Type 0} {P : S → Memory → Type 0} {s' : S} {r : Result A MemoryRefusal} {a b : Bool} (f : Bool → Done A) → a ≡ b → Comes P s' r (f a) → Comes P s' r (f b)
-via_side {P = P} {s' = s'} {r = r} f e h = subst (λ (x : Bool). Comes P s' r (f x)) e h
 
 module _ (left : ℕ → Bool) (place value d : ℕ) where
   -- the way down on a side, and up again
@@ -45,11 +30,3 @@ module _ (left : ℕ → Bool) (place value d : ℕ) where
   -- one level
   pub level : {S : Type 0} {P : S → Memory → Type 0} {s' : S} {r : Result (Unit {0}) MemoryRefusal} (m : Memory) → d < 25 → Comes P s' r (level_of m) → Comes P s' r (insert_of left place value (25 - d) d m)
   level {P = P} {s' = s'} {r = r} m h k = subst⁻¹ (λ x. Comes P s' r x) (level_is m h) k
-
-  out_is : (m : Memory) → 25 ≤ d → insert_of left place value (25 - d) d m ≡ no OutOfRange
-  unfolding insert_of
-  out_is m h = let e : 25 - d ≡ 0 = omega arith in ap (λ n. insert_of left place value n d m) e
-
-  -- no level is left
-  pub out : {S : Type 0} {P : S → Memory → Type 0} {s' : S} (m : Memory) → 25 ≤ d → Comes P s' (Err OutOfRange) (insert_of left place value (25 - d) d m)
-  out {P = P} {s' = s'} m h = subst⁻¹ (λ x. Comes P s' (Err OutOfRange) x) (out_is m h) (record { to = refl })

@@ -55,16 +55,16 @@ stopped_is P s s1 e (no f) h = ap no (sym h.0)
 pub stopped : {S A : Type 0} {P : S → Memory → Type 0} {s s1 : S} {e : MemoryRefusal} {d : Done A} → Meets P s s1 (Err e) d → d ≡ no e
 stopped {P = P} {s = s} {s1 = s1} {e = e} {d = d} h = stopped_is P s s1 e d h.is
 
-ok_same : {A : Type 0} {a b : A} → ◌≡◌ {A = Result A MemoryRefusal} (Ok a) (Ok b) → a ≡ b
+pub ok_same : {A : Type 0} {a b : A} → ◌≡◌ {A = Result A MemoryRefusal} (Ok a) (Ok b) → a ≡ b
 ok_same e = cc
 
-err_same : {A : Type 0} {a b : MemoryRefusal} → ◌≡◌ {A = Result A MemoryRefusal} (Err a) (Err b) → a ≡ b
+pub err_same : {A : Type 0} {a b : MemoryRefusal} → ◌≡◌ {A = Result A MemoryRefusal} (Err a) (Err b) → a ≡ b
 err_same e = cc
 
-ok_err : {A : Type 0} {a : A} {b : MemoryRefusal} → ◌≡◌ {A = Result A MemoryRefusal} (Ok a) (Err b) → ⊥
+pub ok_err : {A : Type 0} {a : A} {b : MemoryRefusal} → ◌≡◌ {A = Result A MemoryRefusal} (Ok a) (Err b) → ⊥
 ok_err e = let z : ◌≡◌ {A = ℕ} 0 1 = cc in omega arith
 
-err_ok : {A : Type 0} {a : A} {b : MemoryRefusal} → ◌≡◌ {A = Result A MemoryRefusal} (Err b) (Ok a) → ⊥
+pub err_ok : {A : Type 0} {a : A} {b : MemoryRefusal} → ◌≡◌ {A = Result A MemoryRefusal} (Err b) (Ok a) → ⊥
 err_ok e = let z : ◌≡◌ {A = ℕ} 0 1 = cc in omega arith
 
 ran_is : {S A : Type 0} (P : S → Memory → Type 0) (s1 : S) (a : A) (d : Done A) → ComesTo P s1 (Ok a) d → (m : Memory) × (d ≡ done a m) × P s1 m

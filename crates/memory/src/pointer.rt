@@ -8,7 +8,9 @@ use order::VersionOrder;
 use refusals::kinds::MemoryRefusal;
 
 // A pointer memory. A call takes the version order that the memory was made with. It answers and steps as the abstract memory does,
-// and a refused call leaves the memory equal to what it was.
+// and a refused call leaves the memory equal to what it was. By a rule of the project, registers, roots and links are numbers, since any
+// number is answered, with 21 where it is out of range; and key, value and mark have calls and widths of their own. What a call does and what
+// it answers to a foreign order are two clauses and no record of both, so that a proof cites each by its name.
 pub trait PointerMemory {
     // what a memory means, together with the items of its order
     ghost means: { Self → List ℕ → Memory → Type 0 };
@@ -26,8 +28,8 @@ pub trait PointerMemory {
         root: usize,
         reg: usize,
     ) -> Result<(), MemoryRefusal>
-        ensures does { Does (λ s. means s (O.VersionOrder.items order.now)) self.old self.new result (load_of root reg) }
-        ensures foreign { Foreign (accepts self.old (length (O.VersionOrder.items order.now))) self.old self.new result }
+        ensures does { Does (λ s. means s (O.items order.now)) self.old self.new result (load_of root reg) }
+        ensures foreign { Foreign (accepts self.old (length (O.items order.now))) self.old self.new result }
         ensures alike { Carries alike self.old self.new };
 
     // Puts a link of a register's node into a register.
@@ -38,8 +40,8 @@ pub trait PointerMemory {
         side: usize,
         reg: usize,
     ) -> Result<(), MemoryRefusal>
-        ensures does { Does (λ s. means s (O.VersionOrder.items order.now)) self.old self.new result (follow_of from side reg) }
-        ensures foreign { Foreign (accepts self.old (length (O.VersionOrder.items order.now))) self.old self.new result }
+        ensures does { Does (λ s. means s (O.items order.now)) self.old self.new result (follow_of from side reg) }
+        ensures foreign { Foreign (accepts self.old (length (O.items order.now))) self.old self.new result }
         ensures alike { Carries alike self.old self.new };
 
     // Copies a register.
@@ -49,34 +51,34 @@ pub trait PointerMemory {
         from: usize,
         reg: usize,
     ) -> Result<(), MemoryRefusal>
-        ensures does { Does (λ s. means s (O.VersionOrder.items order.now)) self.old self.new result (move_of from reg) }
-        ensures foreign { Foreign (accepts self.old (length (O.VersionOrder.items order.now))) self.old self.new result }
+        ensures does { Does (λ s. means s (O.items order.now)) self.old self.new result (move_of from reg) }
+        ensures foreign { Foreign (accepts self.old (length (O.items order.now))) self.old self.new result }
         ensures alike { Carries alike self.old self.new };
 
     // The key place of a register's node.
     fn key<O: VersionOrder>(&self, order: &O, reg: usize) -> Result<u32, MemoryRefusal>
-        ensures does { Tells (λ s. means s (O.VersionOrder.items order.now)) self.now result (key_of reg) }
-        ensures foreign { Foreign (accepts self.now (length (O.VersionOrder.items order.now))) self.now self.now result };
+        ensures does { Tells (λ s. means s (O.items order.now)) self.now result (key_of reg) }
+        ensures foreign { Foreign (accepts self.now (length (O.items order.now))) self.now self.now result };
 
     // Its value.
     fn value<O: VersionOrder>(&self, order: &O, reg: usize) -> Result<u64, MemoryRefusal>
-        ensures does { Tells (λ s. means s (O.VersionOrder.items order.now)) self.now result (number_of 0 reg) }
-        ensures foreign { Foreign (accepts self.now (length (O.VersionOrder.items order.now))) self.now self.now result };
+        ensures does { Tells (λ s. means s (O.items order.now)) self.now result (number_of 0 reg) }
+        ensures foreign { Foreign (accepts self.now (length (O.items order.now))) self.now self.now result };
 
     // Its mark.
     fn mark<O: VersionOrder>(&self, order: &O, reg: usize) -> Result<u32, MemoryRefusal>
-        ensures does { Tells (λ s. means s (O.VersionOrder.items order.now)) self.now result (number_of 1 reg) }
-        ensures foreign { Foreign (accepts self.now (length (O.VersionOrder.items order.now))) self.now self.now result };
+        ensures does { Tells (λ s. means s (O.items order.now)) self.now result (number_of 1 reg) }
+        ensures foreign { Foreign (accepts self.now (length (O.items order.now))) self.now self.now result };
 
     // Whether a register is nil.
     fn is_nil<O: VersionOrder>(&self, order: &O, reg: usize) -> Result<bool, MemoryRefusal>
-        ensures does { Tells (λ s. means s (O.VersionOrder.items order.now)) self.now result (nil_of reg) }
-        ensures foreign { Foreign (accepts self.now (length (O.VersionOrder.items order.now))) self.now self.now result };
+        ensures does { Tells (λ s. means s (O.items order.now)) self.now result (nil_of reg) }
+        ensures foreign { Foreign (accepts self.now (length (O.items order.now))) self.now self.now result };
 
     // Whether two registers hold the same.
     fn same<O: VersionOrder>(&self, order: &O, a: usize, b: usize) -> Result<bool, MemoryRefusal>
-        ensures does { Tells (λ s. means s (O.VersionOrder.items order.now)) self.now result (same_of a b) }
-        ensures foreign { Foreign (accepts self.now (length (O.VersionOrder.items order.now))) self.now self.now result };
+        ensures does { Tells (λ s. means s (O.items order.now)) self.now result (same_of a b) }
+        ensures foreign { Foreign (accepts self.now (length (O.items order.now))) self.now self.now result };
 
     // Puts a new node, both links nil, into a register.
     fn make<O: VersionOrder>(
@@ -87,8 +89,8 @@ pub trait PointerMemory {
         value: u64,
         mark: u32,
     ) -> Result<(), MemoryRefusal>
-        ensures does { Does (λ s. means s (O.VersionOrder.items order.now)) self.old self.new result (make_of reg key value mark) }
-        ensures foreign { Foreign (accepts self.old (length (O.VersionOrder.items order.now))) self.old self.new result };
+        ensures does { Does (λ s. means s (O.items order.now)) self.old self.new result (make_of reg key value mark) }
+        ensures foreign { Foreign (accepts self.old (length (O.items order.now))) self.old self.new result };
 
     // Writes a root from a register.
     fn save<O: VersionOrder>(
@@ -97,8 +99,8 @@ pub trait PointerMemory {
         root: usize,
         reg: usize,
     ) -> Result<(), MemoryRefusal>
-        ensures does { Does (λ s. means s (O.VersionOrder.items order.now)) self.old self.new result (save_of root reg) }
-        ensures foreign { Foreign (accepts self.old (length (O.VersionOrder.items order.now))) self.old self.new result };
+        ensures does { Does (λ s. means s (O.items order.now)) self.old self.new result (save_of root reg) }
+        ensures foreign { Foreign (accepts self.old (length (O.items order.now))) self.old self.new result };
 
     // Writes a link of a register's node from a register.
     fn link<O: VersionOrder>(
@@ -108,8 +110,8 @@ pub trait PointerMemory {
         side: usize,
         reg: usize,
     ) -> Result<(), MemoryRefusal>
-        ensures does { Does (λ s. means s (O.VersionOrder.items order.now)) self.old self.new result (link_of from side reg) }
-        ensures foreign { Foreign (accepts self.old (length (O.VersionOrder.items order.now))) self.old self.new result };
+        ensures does { Does (λ s. means s (O.items order.now)) self.old self.new result (link_of from side reg) }
+        ensures foreign { Foreign (accepts self.old (length (O.items order.now))) self.old self.new result };
 
     // Writes the value of a register's node.
     fn set_value<O: VersionOrder>(
@@ -118,8 +120,8 @@ pub trait PointerMemory {
         reg: usize,
         value: u64,
     ) -> Result<(), MemoryRefusal>
-        ensures does { Does (λ s. means s (O.VersionOrder.items order.now)) self.old self.new result (set_number_of 0 reg value) }
-        ensures foreign { Foreign (accepts self.old (length (O.VersionOrder.items order.now))) self.old self.new result };
+        ensures does { Does (λ s. means s (O.items order.now)) self.old self.new result (set_number_of 0 reg value) }
+        ensures foreign { Foreign (accepts self.old (length (O.items order.now))) self.old self.new result };
 
     // Writes its mark.
     fn set_mark<O: VersionOrder>(
@@ -128,8 +130,8 @@ pub trait PointerMemory {
         reg: usize,
         mark: u32,
     ) -> Result<(), MemoryRefusal>
-        ensures does { Does (λ s. means s (O.VersionOrder.items order.now)) self.old self.new result (set_number_of 1 reg mark) }
-        ensures foreign { Foreign (accepts self.old (length (O.VersionOrder.items order.now))) self.old self.new result };
+        ensures does { Does (λ s. means s (O.items order.now)) self.old self.new result (set_number_of 1 reg mark) }
+        ensures foreign { Foreign (accepts self.old (length (O.items order.now))) self.old self.new result };
 
     // How many nodes can still be made.
     fn nodes_left(&self) -> u32

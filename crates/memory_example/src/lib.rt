@@ -1,69 +1,71 @@
 // A linked list over any memory and any order: generic code in rows of calls, and what its rows come to.
 #![tactic(auto)]
 
-ghost use Rattle.memory.specs.Promises.{Runs, Carries};
+ghost use Rattle.memory.specs.Promises.{Carries};
+ghost use Rattle.working.specs.Works.{Works};
 ghost use Rattle.memory_example.specs.Chains.{push_of, advance_of, value_at_of, two_of, PushLists, WalkAnswers};
 
 use memory::pointer::PointerMemory;
 use order::VersionOrder;
 use refusals::kinds::MemoryRefusal;
+use working::Working;
 
 // Puts a new node in front of the list under root 0.
+#[tactic(auto, unfolding(crate::specs::Chains::push_of))]
 pub fn push<M: PointerMemory, O: VersionOrder>(
-    mem: &mut M,
-    order: &O,
+    work: &mut Working<'_, M, O>,
     key: u32,
     value: u64,
 ) -> Result<(), MemoryRefusal>
-    ensures { Runs (λ s. M.PointerMemory.means s (O.VersionOrder.items order.now)) mem.old mem.new result (push_of key value) }
+    ensures { Works M.means O.items work.old work.new result (push_of key value) }
 {
-    mem.make(order, 0, key, value, 0)?;
-    mem.load(order, 0, 1)?;
-    mem.link(order, 0, 1, 1)?;
-    mem.save(order, 0, 0)
+    work.make(0, key, value, 0)?;
+    work.load(0, 1)?;
+    work.link(0, 1, 1)?;
+    work.save(0, 0)
 }
 
-// Goes so many nodes on, in register 0.
+// Goes so many nodes on, in register 0. It calls itself, as its row of steps does: a loop would need an invariant that says the same.
+#[tactic(auto, unfolding(crate::specs::Chains::advance_of))]
 fn advance<M: PointerMemory, O: VersionOrder>(
-    mem: &mut M,
-    order: &O,
+    work: &mut Working<'_, M, O>,
     steps: usize,
 ) -> Result<(), MemoryRefusal>
-    ensures runs { Runs (λ s. M.PointerMemory.means s (O.VersionOrder.items order.now)) mem.old mem.new result (advance_of steps) }
-    ensures alike { Carries M.PointerMemory.alike mem.old mem.new }
+    ensures runs { Works M.means O.items work.old work.new result (advance_of steps) }
+    ensures alike { Carries M.alike work.old.memory.now work.new.memory.now }
 {
     if steps == 0 {
         return Ok(());
     }
-    mem.follow(order, 0, 1, 0)?;
-    advance(mem, order, steps - 1)
+    work.follow(0, 1, 0)?;
+    advance(work, steps - 1)
 }
 
 // The value of the node at a place, the first at 0. Nothing but registers is moved.
+#[tactic(auto, unfolding(crate::specs::Chains::value_at_of))]
 pub fn value_at<M: PointerMemory, O: VersionOrder>(
-    mem: &mut M,
-    order: &O,
+    work: &mut Working<'_, M, O>,
     place: usize,
 ) -> Result<u64, MemoryRefusal>
-    ensures runs { Runs (λ s. M.PointerMemory.means s (O.VersionOrder.items order.now)) mem.old mem.new result (value_at_of place) }
-    ensures alike { Carries M.PointerMemory.alike mem.old mem.new }
+    ensures runs { Works M.means O.items work.old work.new result (value_at_of place) }
+    ensures alike { Carries M.alike work.old.memory.now work.new.memory.now }
 {
-    mem.load(order, 0, 0)?;
-    advance(mem, order, place)?;
-    mem.value(order, 0)
+    work.load(0, 0)?;
+    advance(work, place)?;
+    work.value(0)
 }
 
 // Pushes 7 and then 9, and answers the values at the first two places.
+#[tactic(auto, unfolding(crate::specs::Chains::two_of))]
 pub fn two_values<M: PointerMemory, O: VersionOrder>(
-    mem: &mut M,
-    order: &O,
+    work: &mut Working<'_, M, O>,
 ) -> Result<(u64, u64), MemoryRefusal>
-    ensures { Runs (λ s. M.PointerMemory.means s (O.VersionOrder.items order.now)) mem.old mem.new result two_of }
+    ensures { Works M.means O.items work.old work.new result two_of }
 {
-    push(mem, order, 1, 7)?;
-    push(mem, order, 2, 9)?;
-    let first = value_at(mem, order, 0)?;
-    let second = value_at(mem, order, 1)?;
+    push(work, 1, 7)?;
+    push(work, 2, 9)?;
+    let first = value_at(work, 0)?;
+    let second = value_at(work, 1)?;
     Ok((first, second))
 }
 

@@ -1,11 +1,8 @@
 -- What a line comes to, as a step of the abstract memory with one type of answers.
 --
 --   replied                                                            the answer of a step, as a reply
---   as_reply                                                           the same of a call's result
 --   move_step, question_step, write_step, pointer_step, version_step   the step that a line calls
---   answered                                                           a result as an answer
-use Rattle.std.specs.Prelude.{ℕ, Bool, Ok, Err, Result}
-use Rattle.refusals.specs.declared.kinds.MemoryRefusal.{MemoryRefusal}
+use Rattle.std.specs.Prelude.{ℕ, Bool}
 use Rattle.memory.specs.Memory.{Memory}
 use Rattle.memory.specs.Steps.{Done, done, no, load_of, follow_of, move_of, key_of, number_of, nil_of, same_of, make_of, save_of, link_of, set_number_of, open_of, enter_of, close_of}
 use Rattle.memory_lines.specs.declared.line.Move.{Move}
@@ -20,16 +17,10 @@ use Rattle.memory_lines.specs.declared.line.VersionLine.{VersionLine}
 use Rattle.memory_lines.specs.declared.line.VersionLine.TheVariants.{Open, Enter, Close}
 use Rattle.memory_lines.specs.declared.line.Reply.{Reply}
 use Rattle.memory_lines.specs.declared.line.Reply.TheVariants as reply
-use Rattle.memory_lines.specs.declared.line.MemoryAnswer.{MemoryAnswer}
-use Rattle.memory_lines.specs.declared.line.MemoryAnswer.TheVariants.{Accepted, Refused}
 
 abbrev pub replied : {A : Type 0} → (A → Reply) → Done A → Done Reply
 replied f (done a m) = done (f a) m
 replied f (no e) = no e
-
-abbrev pub as_reply : {A : Type 0} → (A → Reply) → Result A MemoryRefusal → Result Reply MemoryRefusal
-as_reply f (Ok a) = Ok (f a)
-as_reply f (Err e) = Err e
 
 abbrev pub as_done : Unit {0} → Reply
 as_done _ = reply.Done
@@ -71,7 +62,3 @@ abbrev pub version_step : ℕ → VersionLine → Memory → Done Reply
 version_step limit (Open a) m = replied as_version (open_of limit a m)
 version_step limit (Enter v) m = replied as_done (enter_of v m)
 version_step limit Close m = replied as_done (close_of m)
-
-abbrev pub answered : Result Reply MemoryRefusal → MemoryAnswer
-answered (Ok r) = Accepted r
-answered (Err e) = Refused e

@@ -2,7 +2,6 @@
 #![tactic(auto)]
 
 pub mod line;
-pub mod reply;
 pub mod run;
 pub mod show;
 pub mod versions;

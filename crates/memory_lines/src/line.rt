@@ -1,5 +1,4 @@
 // What a line calls, and what the memory answers.
-use refusals::kinds::MemoryRefusal;
 
 // Calls that move registers.
 #[derive(Clone, Copy)]
@@ -59,52 +58,4 @@ pub enum Reply {
     Number(u64),
     Truth(bool),
     NewVersion(u32),
-}
-
-// What any call answers.
-#[derive(Clone, Copy)]
-pub enum MemoryAnswer {
-    Accepted(Reply),
-    Refused(MemoryRefusal),
-}
-
-// The first word of a line, by the kind of call.
-#[derive(Clone, Copy)]
-pub enum MoveWord {
-    Load,
-    Follow,
-    Copy,
-}
-
-#[derive(Clone, Copy)]
-pub enum QuestionWord {
-    Key,
-    Value,
-    Mark,
-    Nil,
-    Same,
-}
-
-#[derive(Clone, Copy)]
-pub enum WriteWord {
-    Make,
-    Save,
-    Link,
-    SetValue,
-    SetMark,
-}
-
-#[derive(Clone, Copy)]
-pub enum VersionWord {
-    Open,
-    Enter,
-    Close,
-}
-
-#[derive(Clone, Copy)]
-pub enum Word {
-    Moves(MoveWord),
-    Asks(QuestionWord),
-    Writes(WriteWord),
-    Versions(VersionWord),
 }

@@ -1,31 +1,30 @@
-// Runs a line over any pointer memory and any order.
+// Runs a line over any pointer memory and any order. It takes both and no `Working`, as a line that opens a version does, which changes the
+// order too.
 ghost use Rattle.memory.specs.Promises.{Does, Tells};
 ghost use Rattle.memory_lines.specs.Replies.{move_step, question_step, write_step, pointer_step};
 
 use crate::line::{Move, PointerLine, Question, Reply, Write};
-use crate::reply::{finished, narrow, truth, wide};
 use memory::pointer::PointerMemory;
 use order::VersionOrder;
 use refusals::kinds::MemoryRefusal;
 
 // Moves registers.
+// Here and below `as usize` stays: the library has no `From<u32>` for `usize`, and `try_from` would add a refusal that never comes.
 fn run_move<M: PointerMemory, O: VersionOrder>(
     mem: &mut M,
     order: &O,
     line: Move,
 ) -> Result<Reply, MemoryRefusal>
-    ensures { Does (λ s. M.PointerMemory.means s (O.VersionOrder.items order.now)) mem.old mem.new result (move_step line) }
+    ensures { Does (λ s. M.means s (O.items order.now)) mem.old mem.new result (move_step line) }
 {
     match line {
-        Move::Load(root, reg) => finished(mem.load(order, root as usize, reg as usize)),
-        Move::Follow(from, side, reg) => finished(mem.follow(
-            order,
-            from as usize,
-            side as usize,
-            reg as usize,
-        )),
-        Move::Copy(from, reg) => finished(mem.copy(order, from as usize, reg as usize)),
+        Move::Load(root, reg) => mem.load(order, root as usize, reg as usize)?,
+        Move::Follow(from, side, reg) => {
+            mem.follow(order, from as usize, side as usize, reg as usize)?
+        }
+        Move::Copy(from, reg) => mem.copy(order, from as usize, reg as usize)?,
     }
+    Ok(Reply::Done)
 }
 
 // Asks a question.
@@ -34,15 +33,15 @@ fn run_question<M: PointerMemory, O: VersionOrder>(
     order: &O,
     line: Question,
 ) -> Result<Reply, MemoryRefusal>
-    ensures { Tells (λ s. M.PointerMemory.means s (O.VersionOrder.items order.now)) mem.now result (question_step line) }
+    ensures { Tells (λ s. M.means s (O.items order.now)) mem.now result (question_step line) }
 {
-    match line {
-        Question::Key(reg) => narrow(mem.key(order, reg as usize)),
-        Question::Value(reg) => wide(mem.value(order, reg as usize)),
-        Question::Mark(reg) => narrow(mem.mark(order, reg as usize)),
-        Question::Nil(reg) => truth(mem.is_nil(order, reg as usize)),
-        Question::Same(a, b) => truth(mem.same(order, a as usize, b as usize)),
-    }
+    Ok(match line {
+        Question::Key(reg) => Reply::Number(u64::from(mem.key(order, reg as usize)?)),
+        Question::Value(reg) => Reply::Number(mem.value(order, reg as usize)?),
+        Question::Mark(reg) => Reply::Number(u64::from(mem.mark(order, reg as usize)?)),
+        Question::Nil(reg) => Reply::Truth(mem.is_nil(order, reg as usize)?),
+        Question::Same(a, b) => Reply::Truth(mem.same(order, a as usize, b as usize)?),
+    })
 }
 
 // Makes a node or writes.
@@ -51,26 +50,18 @@ fn run_write<M: PointerMemory, O: VersionOrder>(
     order: &O,
     line: Write,
 ) -> Result<Reply, MemoryRefusal>
-    ensures { Does (λ s. M.PointerMemory.means s (O.VersionOrder.items order.now)) mem.old mem.new result (write_step line) }
+    ensures { Does (λ s. M.means s (O.items order.now)) mem.old mem.new result (write_step line) }
 {
     match line {
-        Write::Make(reg, key, value, mark) => finished(mem.make(
-            order,
-            reg as usize,
-            key,
-            value,
-            mark,
-        )),
-        Write::Save(root, reg) => finished(mem.save(order, root as usize, reg as usize)),
-        Write::Link(from, side, reg) => finished(mem.link(
-            order,
-            from as usize,
-            side as usize,
-            reg as usize,
-        )),
-        Write::SetValue(reg, x) => finished(mem.set_value(order, reg as usize, x)),
-        Write::SetMark(reg, x) => finished(mem.set_mark(order, reg as usize, x)),
+        Write::Make(reg, key, value, mark) => mem.make(order, reg as usize, key, value, mark)?,
+        Write::Save(root, reg) => mem.save(order, root as usize, reg as usize)?,
+        Write::Link(from, side, reg) => {
+            mem.link(order, from as usize, side as usize, reg as usize)?
+        }
+        Write::SetValue(reg, x) => mem.set_value(order, reg as usize, x)?,
+        Write::SetMark(reg, x) => mem.set_mark(order, reg as usize, x)?,
     }
+    Ok(Reply::Done)
 }
 
 // Does what the line calls for, and replies; a refused line leaves the memory as it was.
@@ -79,7 +70,7 @@ pub fn run_line<M: PointerMemory, O: VersionOrder>(
     order: &O,
     line: PointerLine,
 ) -> Result<Reply, MemoryRefusal>
-    ensures { Does (λ s. M.PointerMemory.means s (O.VersionOrder.items order.now)) mem.old mem.new result (pointer_step line) }
+    ensures { Does (λ s. M.means s (O.items order.now)) mem.old mem.new result (pointer_step line) }
 {
     match line {
         PointerLine::Moves(moves) => run_move(mem, order, moves),

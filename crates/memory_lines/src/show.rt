@@ -1,9 +1,8 @@
 // The text of an answer.
 ghost use Rattle.std.specs.Prelude.{Some};
-ghost use Rattle.memory_lines.specs.Texts.{reply_text, answer_text};
+ghost use Rattle.memory_lines.specs.Texts.{reply_text};
 
-use crate::line::{MemoryAnswer, Reply};
-use refusals::Refusal;
+use crate::line::Reply;
 use std::fmt;
 
 impl fmt::Display for Reply {
@@ -16,20 +15,6 @@ impl fmt::Display for Reply {
             Reply::Truth(true) => write!(f, "yes"),
             Reply::Truth(false) => write!(f, "no"),
             Reply::NewVersion(n) => write!(f, "version {n}"),
-        }
-    }
-}
-
-impl fmt::Display for MemoryAnswer {
-    ghost output = { λ x. Some (answer_text x) };
-
-    fn fmt<W: fmt::Write>(&self, f: &mut fmt::Formatter<W>) -> fmt::Result {
-        match *self {
-            MemoryAnswer::Accepted(reply) => write!(f, "{reply}"),
-            MemoryAnswer::Refused(refusal) => {
-                let number = refusal.number();
-                write!(f, "refused {number}")
-            }
         }
     }
 }

@@ -3,7 +3,6 @@ ghost use Rattle.memory.specs.Promises.{Does};
 ghost use Rattle.memory_lines.specs.Replies.{version_step};
 
 use crate::line::{Reply, VersionLine};
-use crate::reply::{finished, version};
 use memory::versioned::VersionedMemory;
 use order::VersionOrder;
 use refusals::kinds::MemoryRefusal;
@@ -14,11 +13,11 @@ pub fn run_version<M: VersionedMemory, O: VersionOrder>(
     order: &mut O,
     line: VersionLine,
 ) -> Result<Reply, MemoryRefusal>
-    ensures { Does (λ (p : M × O). M.PointerMemory.means p.0 (O.VersionOrder.items p.1)) (mem.old, order.old) (mem.new, order.new) result (version_step (O.VersionOrder.limit order.old) line) }
+    ensures { Does (λ (p : M × O). M.means p.0 (O.items p.1)) (mem.old, order.old) (mem.new, order.new) result (version_step (O.limit order.old) line) }
 {
     match line {
-        VersionLine::Open(a) => version(mem.open(order, a)),
-        VersionLine::Enter(v) => finished(mem.enter(order, v)),
-        VersionLine::Close => finished(mem.close(order)),
+        VersionLine::Open(a) => mem.open(order, a).map(Reply::NewVersion),
+        VersionLine::Enter(v) => mem.enter(order, v).map(|()| Reply::Done),
+        VersionLine::Close => mem.close(order).map(|()| Reply::Done),
     }
 }

@@ -1,151 +1,111 @@
--- The words and numbers of a line, and the call that they are.
+-- The call that the words of a line write.
 --
---   word_of                                                       the word that a text is, of the four kinds move_word, question_word, write_word and version_word
---   one, two, three                                               that many numbers of 32 bits, and no more
---   four                                                          the numbers of `make`: the third has 64 bits
---   wide_two                                                      the numbers of `set_value`: the second has 64 bits
---   move_with, question_with, write_with, version_with, line_of   the call of a word and its numbers; nothing where they do not fit
---   text_line                                                     the call that the words of a line write, or nothing
-use Rattle.std.specs.Prelude.{ℕ, Bool, cond, ◌&&◌, List, [], ◌∷◌, Some, None, codes, Option, nat_lt}
+--   one, two, three                  what so many numbers of 32 bits make, where the first words write them
+--   four                             what the numbers of `make` make: the third has 64 bits
+--   wide_two                         what the numbers of `set-value` make: the second has 64 bits
+--   moves, numbers, truths, writes   the call of a pointer memory with that word and those words behind it, or nothing
+--   called                           the same of any call
+--   begun                            the call that some words begin with, or nothing
+--   behind_pointer, behind_line      the words behind a call
+--   text_line                        the call that the words of a line write, or nothing
+use Rattle.std.specs.Prelude.{ℕ, cond, List, Some, None, codes, Option}
 use Rattle.std.specs.Str.{bytes_eq}
-use Rattle.text.specs.Numbers.{numbers_of}
-use Rattle.text.specs.Left.{behind_first, read_first, if_there}
-use Rattle.memory_lines.specs.declared.line.Word.{Word}
-use Rattle.memory_lines.specs.declared.line.Word.TheVariants as word
-use Rattle.memory_lines.specs.declared.line.MoveWord.{MoveWord}
-use Rattle.memory_lines.specs.declared.line.MoveWord.TheVariants as moves
-use Rattle.memory_lines.specs.declared.line.QuestionWord.{QuestionWord}
-use Rattle.memory_lines.specs.declared.line.QuestionWord.TheVariants as asks
-use Rattle.memory_lines.specs.declared.line.WriteWord.{WriteWord}
-use Rattle.memory_lines.specs.declared.line.WriteWord.TheVariants as writes
-use Rattle.memory_lines.specs.declared.line.VersionWord.{VersionWord}
-use Rattle.memory_lines.specs.declared.line.VersionWord.TheVariants as versions
-use Rattle.memory_lines.specs.declared.line.Move.{Move}
+use Rattle.text.specs.Numbers.{number_of}
+use Rattle.text.specs.Left.{first_of, behind_first, read_first, is_none, if_there}
 use Rattle.memory_lines.specs.declared.line.Move.TheVariants.{Load, Follow, Copy}
-use Rattle.memory_lines.specs.declared.line.Question.{Question}
 use Rattle.memory_lines.specs.declared.line.Question.TheVariants.{Key, Value, Mark, Nil, Same}
-use Rattle.memory_lines.specs.declared.line.Write.{Write}
 use Rattle.memory_lines.specs.declared.line.Write.TheVariants.{Make, Save, Link, SetValue, SetMark}
+use Rattle.memory_lines.specs.declared.line.PointerLine.{PointerLine}
 use Rattle.memory_lines.specs.declared.line.PointerLine.TheVariants.{Moves, Asks, Writes}
-use Rattle.memory_lines.specs.declared.line.VersionLine.{VersionLine}
 use Rattle.memory_lines.specs.declared.line.VersionLine.TheVariants.{Open, Enter, Close}
 use Rattle.memory_lines.specs.declared.line.MemoryLine.{MemoryLine}
 use Rattle.memory_lines.specs.declared.line.MemoryLine.TheVariants.{Pointer, Version}
 
--- words that move registers
-abbrev pub move_word : List ℕ → Option MoveWord
-move_word w =
-    cond (bytes_eq w (codes "load")) (Some moves.Load) (cond (bytes_eq w (codes "follow")) (Some moves.Follow) (cond (bytes_eq w (codes "move")) (Some moves.Copy) None))
+-- numbers of 32 bits
+abbrev pub one : {A : Type 0} → (ℕ → A) → List (List ℕ) → Option A
+one f ws = if_there (read_first (number_of 32) ws) (λ a. Some (f a))
 
--- words that only ask
-abbrev pub question_word : List ℕ → Option QuestionWord
-question_word w =
-    cond (bytes_eq w (codes "key")) (Some asks.Key)
-    (cond (bytes_eq w (codes "value")) (Some asks.Value)
-    (cond (bytes_eq w (codes "mark")) (Some asks.Mark)
-    (cond (bytes_eq w (codes "nil")) (Some asks.Nil)
-    (cond (bytes_eq w (codes "same")) (Some asks.Same) None))))
+abbrev pub two : {A : Type 0} → (ℕ → ℕ → A) → List (List ℕ) → Option A
+two f ws = if_there (read_first (number_of 32) ws) (λ a. one (f a) (behind_first ws))
+
+abbrev pub three : {A : Type 0} → (ℕ → ℕ → ℕ → A) → List (List ℕ) → Option A
+three f ws = if_there (read_first (number_of 32) ws) (λ a. two (f a) (behind_first ws))
+
+-- of two numbers the second has 64 bits, of four the third
+abbrev pub wide_two : {A : Type 0} → (ℕ → ℕ → A) → List (List ℕ) → Option A
+wide_two f ws = if_there (read_first (number_of 32) ws) (λ a. if_there (read_first (number_of 64) (behind_first ws)) (λ b. Some (f a b)))
+
+abbrev pub four : {A : Type 0} → (ℕ → ℕ → ℕ → ℕ → A) → List (List ℕ) → Option A
+four f ws =
+    if_there (read_first (number_of 32) ws) (λ a.
+    if_there (read_first (number_of 32) (behind_first ws)) (λ b.
+    if_there (read_first (number_of 64) (behind_first (behind_first ws))) (λ c. one (f a b c) (behind_first (behind_first (behind_first ws))))))
 
 -- words that make a node or write
-abbrev pub write_word : List ℕ → Option WriteWord
-write_word w =
-    cond (bytes_eq w (codes "make")) (Some writes.Make)
-    (cond (bytes_eq w (codes "save")) (Some writes.Save)
-    (cond (bytes_eq w (codes "link")) (Some writes.Link)
-    (cond (bytes_eq w (codes "set-value")) (Some writes.SetValue)
-    (cond (bytes_eq w (codes "set-mark")) (Some writes.SetMark) None))))
+abbrev pub writes : List ℕ → List (List ℕ) → Option PointerLine
+writes w ws =
+    cond (bytes_eq w (codes "make")) (four (λ r k v m. Writes (Make r k v m)) ws)
+    (cond (bytes_eq w (codes "save")) (two (λ a b. Writes (Save a b)) ws)
+    (cond (bytes_eq w (codes "link")) (three (λ a b c. Writes (Link a b c)) ws)
+    (cond (bytes_eq w (codes "set-value")) (wide_two (λ a b. Writes (SetValue a b)) ws)
+    (cond (bytes_eq w (codes "set-mark")) (two (λ a b. Writes (SetMark a b)) ws) None))))
 
--- words about versions
-abbrev pub version_word : List ℕ → Option VersionWord
-version_word w =
-    cond (bytes_eq w (codes "open")) (Some versions.Open) (cond (bytes_eq w (codes "enter")) (Some versions.Enter) (cond (bytes_eq w (codes "close")) (Some versions.Close) None))
+-- words that ask for yes or no, and those
+abbrev pub truths : List ℕ → List (List ℕ) → Option PointerLine
+truths w ws =
+    cond (bytes_eq w (codes "nil")) (one (λ a. Asks (Nil a)) ws)
+    (cond (bytes_eq w (codes "same")) (two (λ a b. Asks (Same a b)) ws) (writes w ws))
 
--- the first of some words that is there
-abbrev pub first_word : Option MoveWord → Option QuestionWord → Option WriteWord → Option VersionWord → Option Word
-first_word (Some w) q r v = Some (word.Moves w)
-first_word None (Some w) r v = Some (word.Asks w)
-first_word None None (Some w) v = Some (word.Writes w)
-first_word None None None (Some w) = Some (word.Versions w)
-first_word None None None None = None
+-- words that ask for a number, and those
+abbrev pub numbers : List ℕ → List (List ℕ) → Option PointerLine
+numbers w ws =
+    cond (bytes_eq w (codes "key")) (one (λ a. Asks (Key a)) ws)
+    (cond (bytes_eq w (codes "value")) (one (λ a. Asks (Value a)) ws)
+    (cond (bytes_eq w (codes "mark")) (one (λ a. Asks (Mark a)) ws) (truths w ws)))
 
--- the word that a text is
-abbrev pub word_of : List ℕ → Option Word
-word_of w = first_word (move_word w) (question_word w) (write_word w) (version_word w)
+-- words that move registers, and those
+abbrev pub moves : List ℕ → List (List ℕ) → Option PointerLine
+moves w ws =
+    cond (bytes_eq w (codes "load")) (two (λ a b. Moves (Load a b)) ws)
+    (cond (bytes_eq w (codes "follow")) (three (λ a b c. Moves (Follow a b c)) ws)
+    (cond (bytes_eq w (codes "move")) (two (λ a b. Moves (Copy a b)) ws) (numbers w ws)))
 
--- a number of 32 bits
-abbrev pub narrow : ℕ → Bool
-narrow n = nat_lt n 4294967296
+-- words about versions, and those
+abbrev pub called : List ℕ → List (List ℕ) → Option MemoryLine
+called w ws =
+    cond (bytes_eq w (codes "open")) (one (λ a. Version (Open a)) ws)
+    (cond (bytes_eq w (codes "enter")) (one (λ a. Version (Enter a)) ws)
+    (cond (bytes_eq w (codes "close")) (Some (Version Close)) (if_there (moves w ws) (λ l. Some (Pointer l)))))
 
-abbrev pub one : List ℕ → Option ℕ
-one [] = None
-one (a ∷ []) = cond (narrow a) (Some a) None
-one (a ∷ (b ∷ ns)) = None
+abbrev pub begun : List (List ℕ) → Option MemoryLine
+begun ws = if_there (first_of ws) (λ w. called w (behind_first ws))
 
-abbrev pub two : List ℕ → Option (ℕ × ℕ)
-two [] = None
-two (a ∷ []) = None
-two (a ∷ (b ∷ [])) = cond (narrow a && narrow b) (Some (a, b)) None
-two (a ∷ (b ∷ (c ∷ ns))) = None
+-- the words behind a call's numbers
+abbrev pub behind_two : List (List ℕ) → List (List ℕ)
+behind_two ws = behind_first (behind_first ws)
 
-abbrev pub wide_two : List ℕ → Option (ℕ × ℕ)
-wide_two [] = None
-wide_two (a ∷ []) = None
-wide_two (a ∷ (b ∷ [])) = cond (narrow a) (Some (a, b)) None
-wide_two (a ∷ (b ∷ (c ∷ ns))) = None
+abbrev pub behind_pointer : PointerLine → List (List ℕ) → List (List ℕ)
+behind_pointer (Moves (Load a b)) ws = behind_two ws
+behind_pointer (Moves (Follow a b c)) ws = behind_first (behind_two ws)
+behind_pointer (Moves (Copy a b)) ws = behind_two ws
+behind_pointer (Asks (Key a)) ws = behind_first ws
+behind_pointer (Asks (Value a)) ws = behind_first ws
+behind_pointer (Asks (Mark a)) ws = behind_first ws
+behind_pointer (Asks (Nil a)) ws = behind_first ws
+behind_pointer (Asks (Same a b)) ws = behind_two ws
+behind_pointer (Writes (Make a b c d)) ws = behind_two (behind_two ws)
+behind_pointer (Writes (Save a b)) ws = behind_two ws
+behind_pointer (Writes (Link a b c)) ws = behind_first (behind_two ws)
+behind_pointer (Writes (SetValue a b)) ws = behind_two ws
+behind_pointer (Writes (SetMark a b)) ws = behind_two ws
 
-abbrev pub three : List ℕ → Option (ℕ × ℕ × ℕ)
-three [] = None
-three (a ∷ []) = None
-three (a ∷ (b ∷ [])) = None
-three (a ∷ (b ∷ (c ∷ []))) = cond (narrow a && narrow b && narrow c) (Some (a, b, c)) None
-three (a ∷ (b ∷ (c ∷ (d ∷ ns)))) = None
+-- and behind its own word
+abbrev pub behind_line : MemoryLine → List (List ℕ) → List (List ℕ)
+behind_line (Pointer l) ws = behind_pointer l (behind_first ws)
+behind_line (Version (Open a)) ws = behind_two ws
+behind_line (Version (Enter a)) ws = behind_two ws
+behind_line (Version Close) ws = behind_first ws
 
-abbrev pub four : List ℕ → Option (ℕ × ℕ × ℕ × ℕ)
-four [] = None
-four (a ∷ []) = None
-four (a ∷ (b ∷ [])) = None
-four (a ∷ (b ∷ (c ∷ []))) = None
-four (a ∷ (b ∷ (c ∷ (d ∷ [])))) = cond (narrow a && narrow b && narrow d) (Some (a, b, c, d)) None
-four (a ∷ (b ∷ (c ∷ (d ∷ (e ∷ ns))))) = None
-
-abbrev pub onto : {A B : Type 0} → (A → B) → Option A → Option B
-onto f None = None
-onto f (Some x) = Some (f x)
-
-abbrev pub close_with : List ℕ → Option VersionLine
-close_with [] = Some Close
-close_with (n ∷ ns) = None
-
-abbrev pub move_with : MoveWord → List ℕ → Option Move
-move_with moves.Load ns = onto (λ p. Load p.0 p.1) (two ns)
-move_with moves.Follow ns = onto (λ p. Follow p.0 p.1 p.2) (three ns)
-move_with moves.Copy ns = onto (λ p. Copy p.0 p.1) (two ns)
-
-abbrev pub question_with : QuestionWord → List ℕ → Option Question
-question_with asks.Key ns = onto (λ a. Key a) (one ns)
-question_with asks.Value ns = onto (λ a. Value a) (one ns)
-question_with asks.Mark ns = onto (λ a. Mark a) (one ns)
-question_with asks.Nil ns = onto (λ a. Nil a) (one ns)
-question_with asks.Same ns = onto (λ p. Same p.0 p.1) (two ns)
-
-abbrev pub write_with : WriteWord → List ℕ → Option Write
-write_with writes.Make ns = onto (λ p. Make p.0 p.1 p.2 p.3) (four ns)
-write_with writes.Save ns = onto (λ p. Save p.0 p.1) (two ns)
-write_with writes.Link ns = onto (λ p. Link p.0 p.1 p.2) (three ns)
-write_with writes.SetValue ns = onto (λ p. SetValue p.0 p.1) (wide_two ns)
-write_with writes.SetMark ns = onto (λ p. SetMark p.0 p.1) (two ns)
-
-abbrev pub version_with : VersionWord → List ℕ → Option VersionLine
-version_with versions.Open ns = onto (λ a. Open a) (one ns)
-version_with versions.Enter ns = onto (λ a. Enter a) (one ns)
-version_with versions.Close ns = close_with ns
-
-abbrev pub line_of : Word → List ℕ → Option MemoryLine
-line_of (word.Moves w) ns = onto (λ l. Pointer (Moves l)) (move_with w ns)
-line_of (word.Asks w) ns = onto (λ l. Pointer (Asks l)) (question_with w ns)
-line_of (word.Writes w) ns = onto (λ l. Pointer (Writes l)) (write_with w ns)
-line_of (word.Versions w) ns = onto (λ l. Version l) (version_with w ns)
-
--- a word, and 64-bit numbers to the end of the line
+-- a call, and no words behind it
 abbrev pub text_line : List (List ℕ) → Option MemoryLine
-text_line ws = if_there (read_first word_of ws) (λ w. if_there (numbers_of (behind_first ws)) (λ ns. line_of w ns))
+text_line ws = if_there (begun ws) (λ l. cond (is_none (behind_line l ws)) (Some l) None)

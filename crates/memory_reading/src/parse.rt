@@ -1,27 +1,18 @@
 // Reads a line of text: a word and decimal numbers, with single spaces between.
-ghost use Rattle.std.specs.Prelude.{◌≡◌, IfOk};
+ghost use Rattle.std.specs.Prelude.{◌≡◌};
 ghost use Rattle.text.specs.Parts.{words};
 ghost use Rattle.memory_reading.specs.Words.{text_line};
 
-use crate::read::line_of;
-use crate::word::word_of;
+use crate::read::begun;
 use memory_lines::line::MemoryLine;
-use std::alloc::{AllocError, Global};
 use text::split::Parts;
 
-// The line that the text is; nothing where it is none.
-pub fn parse_line(heap: Global, line: &[u8]) -> Result<Option<MemoryLine>, AllocError>
-    ensures { IfOk result (λ o. o ≡ text_line (words line.now)) }
+// The line that the text is; nothing where it is none. The orders' lines end in the same two lines: a function for both would take the reading
+// as a closure, which would have to promise which words it leaves.
+pub fn parse_line(line: &[u8]) -> Option<MemoryLine>
+    ensures { result ≡ text_line (words line.now) }
 {
     let mut words = Parts::words(line);
-    let Some(part) = words.part() else {
-        return Ok(None);
-    };
-    let Some(word) = word_of(part) else {
-        return Ok(None);
-    };
-    match words.numbers(heap)? {
-        Some(numbers) => Ok(line_of(word, numbers.as_slice())),
-        None => Ok(None),
-    }
+    let call = begun(&mut words)?;
+    words.is_done().then_some(call)
 }

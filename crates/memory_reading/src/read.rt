@@ -1,120 +1,80 @@
-// The call that a word and its numbers are.
-ghost use Rattle.std.specs.Prelude.{◌≡◌};
-ghost use Rattle.memory_reading.specs.Words.{move_with, question_with, write_with, version_with, line_of};
+// The call that the words of a line begin with: its own word, and as many numbers as it needs. Four functions, each of which leaves the other
+// words to the next: tried as one match with more than three words and a way on, the proof did not close.
+ghost use Rattle.std.specs.Prelude.{◌≡◌, IfSome};
+ghost use Rattle.text.specs.Left.{left};
+ghost use Rattle.memory_reading.specs.Words.{moves, numbers, truths, writes, begun, behind_pointer, behind_line};
 
-use crate::numbers::{take_four, take_one, take_three, take_two, take_wide};
-use memory_lines::line::{
-    MemoryLine, Move, MoveWord, PointerLine, Question, QuestionWord, VersionLine, VersionWord,
-    Word, Write, WriteWord,
-};
-
-// A call that moves registers.
-fn move_of(word: MoveWord, numbers: &[u64]) -> Option<Move>
-    ensures { result ≡ move_with word numbers.now }
-{
-    match word {
-        MoveWord::Load => {
-            let (root, reg) = take_two(numbers)?;
-            Some(Move::Load(root, reg))
-        }
-        MoveWord::Follow => {
-            let (from, side, reg) = take_three(numbers)?;
-            Some(Move::Follow(from, side, reg))
-        }
-        MoveWord::Copy => {
-            let (from, reg) = take_two(numbers)?;
-            Some(Move::Copy(from, reg))
-        }
-    }
-}
-
-// A call that only answers.
-fn question_of(word: QuestionWord, numbers: &[u64]) -> Option<Question>
-    ensures { result ≡ question_with word numbers.now }
-{
-    match word {
-        QuestionWord::Key => {
-            let reg = take_one(numbers)?;
-            Some(Question::Key(reg))
-        }
-        QuestionWord::Value => {
-            let reg = take_one(numbers)?;
-            Some(Question::Value(reg))
-        }
-        QuestionWord::Mark => {
-            let reg = take_one(numbers)?;
-            Some(Question::Mark(reg))
-        }
-        QuestionWord::Nil => {
-            let reg = take_one(numbers)?;
-            Some(Question::Nil(reg))
-        }
-        QuestionWord::Same => {
-            let (a, b) = take_two(numbers)?;
-            Some(Question::Same(a, b))
-        }
-    }
-}
+use memory_lines::line::{MemoryLine, Move, PointerLine, Question, VersionLine, Write};
+use text::split::Parts;
 
 // A call that makes a node or writes.
-fn write_of(word: WriteWord, numbers: &[u64]) -> Option<Write>
-    ensures { result ≡ write_with word numbers.now }
+fn writes(word: &[u8], words: &mut Parts) -> Option<PointerLine>
+    ensures call { result ≡ writes word.now (left words.old) }
+    ensures rest { IfSome result (λ l. left words.new ≡ behind_pointer l (left words.old)) }
 {
-    match word {
-        WriteWord::Make => {
-            let (reg, key, value, mark) = take_four(numbers)?;
-            Some(Write::Make(reg, key, value, mark))
-        }
-        WriteWord::Save => {
-            let (root, reg) = take_two(numbers)?;
-            Some(Write::Save(root, reg))
-        }
-        WriteWord::Link => {
-            let (from, side, reg) = take_three(numbers)?;
-            Some(Write::Link(from, side, reg))
-        }
-        WriteWord::SetValue => {
-            let (reg, x) = take_wide(numbers)?;
-            Some(Write::SetValue(reg, x))
-        }
-        WriteWord::SetMark => {
-            let (reg, x) = take_two(numbers)?;
-            Some(Write::SetMark(reg, x))
-        }
-    }
+    Some(PointerLine::Writes(match word {
+        b"make" => Write::Make(
+            words.number()?,
+            words.number()?,
+            words.number()?,
+            words.number()?,
+        ),
+        b"save" => Write::Save(words.number()?, words.number()?),
+        b"link" => Write::Link(words.number()?, words.number()?, words.number()?),
+        b"set-value" => Write::SetValue(words.number()?, words.number()?),
+        b"set-mark" => Write::SetMark(words.number()?, words.number()?),
+        _ => return None,
+    }))
 }
 
-// A call about versions.
-fn version_of(word: VersionWord, numbers: &[u64]) -> Option<VersionLine>
-    ensures { result ≡ version_with word numbers.now }
+// A call that answers yes or no, or one that makes or writes.
+fn truths(word: &[u8], words: &mut Parts) -> Option<PointerLine>
+    ensures call { result ≡ truths word.now (left words.old) }
+    ensures rest { IfSome result (λ l. left words.new ≡ behind_pointer l (left words.old)) }
 {
-    match word {
-        VersionWord::Open => {
-            let a = take_one(numbers)?;
-            Some(VersionLine::Open(a))
-        }
-        VersionWord::Enter => {
-            let v = take_one(numbers)?;
-            Some(VersionLine::Enter(v))
-        }
-        VersionWord::Close => {
-            if numbers.len() == 0 {
-                Some(VersionLine::Close)
-            } else {
-                None
-            }
-        }
-    }
+    Some(PointerLine::Asks(match word {
+        b"nil" => Question::Nil(words.number()?),
+        b"same" => Question::Same(words.number()?, words.number()?),
+        _ => return writes(word, words),
+    }))
 }
 
-// Any call; nothing where word and numbers do not fit.
-pub(crate) fn line_of(word: Word, numbers: &[u64]) -> Option<MemoryLine>
-    ensures { result ≡ line_of word numbers.now }
+// A call that answers a number, or one of those.
+fn numbers(word: &[u8], words: &mut Parts) -> Option<PointerLine>
+    ensures call { result ≡ numbers word.now (left words.old) }
+    ensures rest { IfSome result (λ l. left words.new ≡ behind_pointer l (left words.old)) }
 {
-    match word {
-        Word::Moves(w) => Some(MemoryLine::Pointer(PointerLine::Moves(move_of(w, numbers)?))),
-        Word::Asks(w) => Some(MemoryLine::Pointer(PointerLine::Asks(question_of(w, numbers)?))),
-        Word::Writes(w) => Some(MemoryLine::Pointer(PointerLine::Writes(write_of(w, numbers)?))),
-        Word::Versions(w) => Some(MemoryLine::Version(version_of(w, numbers)?)),
-    }
+    Some(PointerLine::Asks(match word {
+        b"key" => Question::Key(words.number()?),
+        b"value" => Question::Value(words.number()?),
+        b"mark" => Question::Mark(words.number()?),
+        _ => return truths(word, words),
+    }))
+}
+
+// A call that moves registers, or one of those: any call of a pointer memory.
+fn moves(word: &[u8], words: &mut Parts) -> Option<PointerLine>
+    ensures call { result ≡ moves word.now (left words.old) }
+    ensures rest { IfSome result (λ l. left words.new ≡ behind_pointer l (left words.old)) }
+{
+    Some(PointerLine::Moves(match word {
+        b"load" => Move::Load(words.number()?, words.number()?),
+        b"follow" => Move::Follow(words.number()?, words.number()?, words.number()?),
+        b"move" => Move::Copy(words.number()?, words.number()?),
+        _ => return numbers(word, words),
+    }))
+}
+
+// A call about versions, or one of those.
+pub(crate) fn begun(words: &mut Parts) -> Option<MemoryLine>
+    ensures call { result ≡ begun (left words.old) }
+    ensures rest { IfSome result (λ l. left words.new ≡ behind_line l (left words.old)) }
+{
+    let word = words.next()?;
+    Some(match word {
+        b"open" => MemoryLine::Version(VersionLine::Open(words.number()?)),
+        b"enter" => MemoryLine::Version(VersionLine::Enter(words.number()?)),
+        b"close" => MemoryLine::Version(VersionLine::Close),
+        _ => MemoryLine::Pointer(moves(word, words)?),
+    })
 }

@@ -1,7 +1,7 @@
 // The order of a single version: it holds item 0 alone, and takes no other. Single-version memory is run with it.
 #![tactic(auto)]
 
-ghost use Rattle.std.specs.Prelude.{◌∷◌, []};
+ghost use Rattle.std.specs.Prelude.{◌≡◌, ◌≢◌, ◌∷◌, [], MatchResult};
 ghost use Rattle.std.proofs.Common.{rules};
 
 use order::VersionOrder;
@@ -9,6 +9,16 @@ use refusals::kinds::OrderRefusal;
 
 #[derive(Clone, Copy)]
 pub struct OneVersion;
+
+// Refuses every item but 0.
+fn known(a: u32) -> Result<(), OrderRefusal>
+    ensures { MatchResult result (λ _. a ≡ 0) (λ e. (a ≢ 0) × (e ≡ OrderRefusal.UnknownItem)) }
+{
+    if a != 0 {
+        return Err(OrderRefusal::UnknownItem);
+    }
+    Ok(())
+}
 
 impl VersionOrder for OneVersion {
     ghost items = { λ o. 0 ∷ [] };
@@ -26,26 +36,18 @@ impl VersionOrder for OneVersion {
     }
 
     fn before(&self, a: u32, b: u32) -> Result<bool, OrderRefusal> {
-        if a == 0 && b == 0 {
-            Ok(false)
-        } else {
-            Err(OrderRefusal::UnknownItem)
-        }
+        known(a)?;
+        known(b)?;
+        Ok(false)
     }
 
     fn successor(&self, a: u32) -> Result<Option<u32>, OrderRefusal> {
-        if a == 0 {
-            Ok(None)
-        } else {
-            Err(OrderRefusal::UnknownItem)
-        }
+        known(a)?;
+        Ok(None)
     }
 
     fn after(&mut self, a: u32) -> Result<u32, OrderRefusal> {
-        if a == 0 {
-            Err(OrderRefusal::Full)
-        } else {
-            Err(OrderRefusal::UnknownItem)
-        }
+        known(a)?;
+        Err(OrderRefusal::Full)
     }
 }

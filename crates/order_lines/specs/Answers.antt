@@ -9,19 +9,19 @@ use Rattle.order.specs.Items.{behind, after_answer, before_answer, successor_ans
 use Rattle.order_lines.specs.declared.line.OrderLine.{OrderLine}
 use Rattle.order_lines.specs.declared.line.OrderLine.TheVariants.{After, Before, Successor, Count, Label}
 use Rattle.order_lines.specs.declared.line.OrderAnswer.{OrderAnswer}
-use Rattle.order_lines.specs.declared.line.OrderAnswer.TheVariants.{NewItem, IsBefore, Next, Total, LabelIs, Refused}
+use Rattle.order_lines.specs.declared.line.OrderAnswer.TheVariants.{NewItem, IsBefore, Next, Total, LabelIs}
 
 -- an answer of the order, or its refusal
-abbrev pub answered : {A : Type 0} → (A → OrderAnswer) → Result A OrderRefusal → OrderAnswer
-answered f (Ok x) = f x
-answered f (Err e) = Refused e
+abbrev pub answered : {A : Type 0} → (A → OrderAnswer) → Result A OrderRefusal → Result OrderAnswer OrderRefusal
+answered f (Ok x) = Ok (f x)
+answered f (Err e) = Err e
 
 -- the answer of an order with the items xs, the limit and the labels
-abbrev pub line_answer : List ℕ → ℕ → (ℕ → Result ℕ OrderRefusal) → OrderLine → OrderAnswer
+abbrev pub line_answer : List ℕ → ℕ → (ℕ → Result ℕ OrderRefusal) → OrderLine → Result OrderAnswer OrderRefusal
 line_answer xs limit labels (After a) = answered (λ n. NewItem n) (after_answer xs limit a)
 line_answer xs limit labels (Before a b) = answered (λ t. IsBefore t) (before_answer xs a b)
 line_answer xs limit labels (Successor a) = answered (λ o. Next o) (successor_answer xs a)
-line_answer xs limit labels Count = Total (length xs)
+line_answer xs limit labels Count = Ok (Total (length xs))
 line_answer xs limit labels (Label a) = answered (λ l. LabelIs l) (labels a)
 
 -- n right behind the item that the line names
@@ -33,19 +33,19 @@ items_with Count n xs = xs
 items_with (Label a) n xs = xs
 
 -- the items xs after a line with that answer
-abbrev pub items_by : OrderAnswer → OrderLine → List ℕ → List ℕ
-items_by (NewItem n) line xs = items_with line n xs
-items_by (IsBefore t) line xs = xs
-items_by (Next o) line xs = xs
-items_by (Total n) line xs = xs
-items_by (LabelIs l) line xs = xs
-items_by (Refused e) line xs = xs
+abbrev pub items_by : Result OrderAnswer OrderRefusal → OrderLine → List ℕ → List ℕ
+items_by (Ok (NewItem n)) line xs = items_with line n xs
+items_by (Ok (IsBefore t)) line xs = xs
+items_by (Ok (Next o)) line xs = xs
+items_by (Ok (Total n)) line xs = xs
+items_by (Ok (LabelIs l)) line xs = xs
+items_by (Err e) line xs = xs
 
 -- the fact holds unless the answer is a new item
-abbrev pub Keeps : OrderAnswer → Type 0 → Type 0
-Keeps (NewItem n) P = Unit {0}
-Keeps (IsBefore t) P = P
-Keeps (Next o) P = P
-Keeps (Total n) P = P
-Keeps (LabelIs l) P = P
-Keeps (Refused e) P = P
+abbrev pub Keeps : Result OrderAnswer OrderRefusal → Type 0 → Type 0
+Keeps (Ok (NewItem n)) P = Unit {0}
+Keeps (Ok (IsBefore t)) P = P
+Keeps (Ok (Next o)) P = P
+Keeps (Ok (Total n)) P = P
+Keeps (Ok (LabelIs l)) P = P
+Keeps (Err e) P = P

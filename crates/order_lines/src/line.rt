@@ -1,5 +1,4 @@
 // What a line asks of an order, and what the order answers.
-use refusals::kinds::OrderRefusal;
 
 // A question or a call, with the numbers of the items that it names.
 #[derive(Clone, Copy)]
@@ -19,5 +18,4 @@ pub enum OrderAnswer {
     Next(Option<u32>),
     Total(u32),
     LabelIs(u32),
-    Refused(OrderRefusal),
 }

@@ -1,52 +1,25 @@
 // Reads a line of text.
-ghost use Rattle.std.specs.Prelude.{◌≡◌};
+ghost use Rattle.std.specs.Prelude.{◌≡◌, IfSome};
 ghost use Rattle.text.specs.Parts.{words};
 ghost use Rattle.text.specs.Left.{left};
-ghost use Rattle.order_lines.specs.Texts.{one_item, two_items, asked, line_of};
+ghost use Rattle.order_lines.specs.Texts.{begun, behind_line, line_of};
 
 use crate::line::OrderLine;
-use text::cutting::same;
 use text::split::Parts;
 
-// The one number that is left.
-fn one_item(mut words: Parts) -> Option<u32>
-    ensures { result ≡ one_item (left words.entry) }
+// The line that the next words begin with.
+fn begun(words: &mut Parts) -> Option<OrderLine>
+    ensures line { result ≡ begun (left words.old) }
+    ensures rest { IfSome result (λ l. left words.new ≡ behind_line l (left words.old)) }
 {
-    let a = words.u32()?;
-    if words.is_done() { Some(a) } else { None }
-}
-
-// The two numbers that are left.
-fn two_items(mut words: Parts) -> Option<(u32, u32)>
-    ensures { result ≡ two_items (left words.entry) }
-{
-    let a = words.u32()?;
-    let b = words.u32()?;
-    if words.is_done() { Some((a, b)) } else { None }
-}
-
-// The line that begins with the word and goes on with the words that are left.
-fn asked_by(word: &[u8], words: Parts) -> Option<OrderLine>
-    ensures { result ≡ asked word.now (left words.entry) }
-{
-    if same(word, b"after") {
-        return Some(OrderLine::After(one_item(words)?));
-    }
-    if same(word, b"before") {
-        let (a, b) = two_items(words)?;
-        return Some(OrderLine::Before(a, b));
-    }
-    if same(word, b"successor") {
-        return Some(OrderLine::Successor(one_item(words)?));
-    }
-    if same(word, b"label") {
-        return Some(OrderLine::Label(one_item(words)?));
-    }
-    if same(word, b"count") && words.is_done() {
-        Some(OrderLine::Count)
-    } else {
-        None
-    }
+    Some(match words.next()? {
+        b"after" => OrderLine::After(words.number()?),
+        b"before" => OrderLine::Before(words.number()?, words.number()?),
+        b"successor" => OrderLine::Successor(words.number()?),
+        b"count" => OrderLine::Count,
+        b"label" => OrderLine::Label(words.number()?),
+        _ => return None,
+    })
 }
 
 // The line that a text is; nothing where it is none.
@@ -54,6 +27,6 @@ pub fn parse_line(line: &[u8]) -> Option<OrderLine>
     ensures { result ≡ line_of (words line.now) }
 {
     let mut words = Parts::words(line);
-    let word = words.part()?;
-    asked_by(word, words)
+    let line = begun(&mut words)?;
+    words.is_done().then_some(line)
 }

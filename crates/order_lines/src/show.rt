@@ -3,7 +3,6 @@ ghost use Rattle.std.specs.Prelude.{Some};
 ghost use Rattle.order_lines.specs.Texts.{answer_text};
 
 use crate::line::OrderAnswer;
-use refusals::Refusal;
 use std::fmt;
 
 impl fmt::Display for OrderAnswer {
@@ -11,17 +10,13 @@ impl fmt::Display for OrderAnswer {
 
     fn fmt<W: fmt::Write>(&self, f: &mut fmt::Formatter<W>) -> fmt::Result {
         match *self {
-            OrderAnswer::NewItem(n) => write!(f, "{n}"),
+            OrderAnswer::NewItem(n)
+            | OrderAnswer::Next(Some(n))
+            | OrderAnswer::Total(n)
+            | OrderAnswer::LabelIs(n) => write!(f, "{n}"),
+            OrderAnswer::Next(None) => write!(f, "nothing"),
             OrderAnswer::IsBefore(true) => write!(f, "yes"),
             OrderAnswer::IsBefore(false) => write!(f, "no"),
-            OrderAnswer::Next(Some(n)) => write!(f, "{n}"),
-            OrderAnswer::Next(None) => write!(f, "nothing"),
-            OrderAnswer::Total(n) => write!(f, "{n}"),
-            OrderAnswer::LabelIs(n) => write!(f, "{n}"),
-            OrderAnswer::Refused(refusal) => {
-                let number = refusal.number();
-                write!(f, "refused {number}")
-            }
         }
     }
 }

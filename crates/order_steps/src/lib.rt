@@ -12,14 +12,9 @@ pub fn insert_between<O: VersionOrder>(
     order: &mut O,
     a: u32,
 ) -> Result<(u32, Option<u32>), OrderRefusal>
-    ensures { MatchResult result (λ p. Between (O.VersionOrder.items order.old) (O.VersionOrder.items order.new) a p.0 p.1) (λ _. order.new ≡ order.old) }
+    ensures { MatchResult result (λ p. Between (O.items order.old) (O.items order.new) a p.0 p.1) (λ _. order.new ≡ order.old) }
 {
-    let next = match order.successor(a) {
-        Ok(next) => next,
-        Err(refusal) => return Err(refusal),
-    };
-    match order.after(a) {
-        Ok(n) => Ok((n, next)),
-        Err(refusal) => Err(refusal),
-    }
+    let next = order.successor(a)?;
+    let n = order.after(a)?;
+    Ok((n, next))
 }

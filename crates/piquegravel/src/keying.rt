@@ -1,14 +1,9 @@
 // The command `keys`: which of two keys goes first.
-use crate::output::Output;
+use crate::output::{answer_lines, text_of};
 use key_lines::reply::reply;
-use text::split::Parts;
+use std::io::Write;
 
-pub fn run_keys(rt: &HostRuntime, input: &[u8]) -> anyhow::Result<()> {
-    let mut output = Output::new(rt);
-    let mut lines = Parts::new(input, b'\n');
-    while let Some(line) = lines.line() {
-        let text = reply(line).to_string(rt.alloc())?;
-        output.answer(rt, line, text.as_str())?;
-    }
-    output.flush(rt)
+pub fn run_keys(rt: &HostRuntime, output: &mut impl Write, input: &[u8]) -> anyhow::Result<()> {
+    let heap = rt.alloc();
+    answer_lines(output, input, |line| text_of(heap, Some(reply(line))))
 }

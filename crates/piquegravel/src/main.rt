@@ -10,14 +10,15 @@ mod output;
 mod timing;
 mod usage;
 
+use anyhow::anyhow;
 use comparing::run_compare;
 use keying::run_keys;
 use memories::run_memory;
 use ordering::run_order;
-use std::fs;
-use std::io::Read;
+use std::io::{self, BufWriter, Read, Write};
+use std::{env, fs};
 use timing::run_time_order;
-use usage::{Command, read_commands};
+use usage::{Command, USAGE, read_commands};
 
 // All bytes of a file; `-` is standard input.
 fn input(rt: &HostRuntime, file: &str) -> anyhow::Result<Vec<u8>> {
@@ -29,34 +30,41 @@ fn input(rt: &HostRuntime, file: &str) -> anyhow::Result<Vec<u8>> {
     Ok(fs::read(rt, file)?)
 }
 
-fn run(rt: &HostRuntime) -> anyhow::Result<()> {
-    let commands = read_commands(rt)?;
-    for command in commands.iter() {
-        match command {
-            Command::Compare { file } => run_compare(rt, input(rt, file.as_str())?.as_slice())?,
-            Command::Keys { file } => run_keys(rt, input(rt, file.as_str())?.as_slice())?,
-            Command::Order { kind, limit, file } => run_order(
-                rt,
-                *kind,
-                *limit,
-                input(rt, file.as_str())?.as_slice(),
-            )?,
-            Command::Memory {
-                kind,
-                nodes,
-                changes,
-                file,
-            } => {
-                run_memory(
-                    rt,
-                    *kind,
-                    *nodes,
-                    *changes,
-                    input(rt, file.as_str())?.as_slice(),
-                )?
-            }
-            Command::TimeOrder { kind, items } => run_time_order(rt, *kind, *items)?,
+// Runs one command.
+fn run_command(rt: &HostRuntime, command: Command, output: &mut impl Write) -> anyhow::Result<()> {
+    match command {
+        Command::Compare { file } => run_compare(rt, output, input(rt, file)?.as_slice()),
+        Command::Keys { file } => run_keys(rt, output, input(rt, file)?.as_slice()),
+        Command::Order { kind, limit, file } => {
+            run_order(rt, kind, limit, output, input(rt, file)?.as_slice())
         }
+        Command::Memory {
+            kind,
+            nodes,
+            changes,
+            file,
+        } => run_memory(
+            rt,
+            kind,
+            nodes,
+            changes,
+            output,
+            input(rt, file)?.as_slice(),
+        ),
+        Command::TimeOrder { kind, items } => run_time_order(rt, kind, items),
+    }
+}
+
+fn run(rt: &HostRuntime) -> anyhow::Result<()> {
+    let words: Vec<String> = env::args(rt)?.collect(rt.alloc())?;
+    let Some(commands) = read_commands(rt.alloc(), words.as_slice())? else {
+        eprintln!(rt; "{USAGE}")?;
+        return Err(anyhow!("these words are no commands"));
+    };
+    let mut output = BufWriter::with_capacity(rt.alloc(), 65536, io::writer(rt))?;
+    for command in commands.iter() {
+        run_command(rt, *command, &mut output)?;
+        output.flush()?;
     }
     Ok(())
 }

@@ -1,9 +1,11 @@
 // Orders of both kinds, made in memory of the program's own.
-use grouping::item::Item;
+use grouping::item::Seat;
+use labels::Labelled;
 use linked_lists::row::Row;
-use refusals::Refusal;
+use order::VersionOrder;
+use refusals::kinds::MakerRefusal;
 use relabelled::list::RelabelledList;
-use std::alloc::Global;
+use std::alloc::{AllocError, Global};
 use two_level::list::TwoLevelList;
 
 // The kinds of version orders.
@@ -13,44 +15,45 @@ pub enum OrderKind {
     TwoLevel,
 }
 
-// The kind that a word names.
-pub fn order_kind(word: &str) -> Option<OrderKind> {
-    match word {
-        "relabelled" => Some(OrderKind::Relabelled),
-        "two-level" => Some(OrderKind::TwoLevel),
-        _ => None,
+impl OrderKind {
+    // The kind that a word names. No `TryFrom`: a word that names none is no error of its own, only no command.
+    pub fn named(word: &str) -> Option<OrderKind> {
+        match word {
+            "relabelled" => Some(OrderKind::Relabelled),
+            "two-level" => Some(OrderKind::TwoLevel),
+            _ => None,
+        }
     }
 }
 
-// As many rows as an order of that limit needs; no order has more than 4,096 items.
-fn rows(heap: Global, limit: u32) -> anyhow::Result<Vec<Row>> {
+// An order that the program can make: of item 0 alone, for at most `limit` items, in tables that it asks for.
+pub trait MadeOrder: VersionOrder + Labelled + Drop {
+    fn made(heap: Global, limit: u32) -> Result<Result<Self, MakerRefusal>, AllocError>
+    where
+        Self: Sized;
+}
+
+// As many rows as an order of that limit needs, each with the tag and without neighbours; no order has more than 4,096 items.
+fn table<T: Copy>(heap: Global, limit: u32, tag: T) -> Result<Vec<Row<T>>, AllocError> {
     let blank = Row {
-        label: 0,
+        tag,
         next: None,
         prev: None,
     };
     Ok(vec![in heap; blank; limit.min(4096) as usize]?)
 }
 
-// A relabelled list of item 0 alone, or the number of the refusal.
-pub fn relabelled_list(heap: Global, limit: u32) -> anyhow::Result<Result<RelabelledList, u32>> {
-    match RelabelledList::make(limit, rows(heap, limit)?) {
-        Ok(order) => Ok(Ok(order)),
-        Err((refusal, _)) => Ok(Err(refusal.number())),
+impl MadeOrder for RelabelledList {
+    fn made(heap: Global, limit: u32) -> Result<Result<Self, MakerRefusal>, AllocError> {
+        let rows = table(heap, limit, 0)?;
+        Ok(RelabelledList::make(limit, rows).map_err(|(refusal, _)| refusal))
     }
 }
 
-// A two-level list of item 0 alone, or the number of the refusal.
-pub fn two_level_list(heap: Global, limit: u32) -> anyhow::Result<Result<TwoLevelList, u32>> {
-    let blank = Item {
-        group: 0,
-        rank: 0,
-        next: None,
-        prev: None,
-    };
-    let items = vec![in heap; blank; limit.min(4096) as usize]?;
-    match TwoLevelList::make(limit, items, rows(heap, limit)?) {
-        Ok(order) => Ok(Ok(order)),
-        Err((refusal, _, _)) => Ok(Err(refusal.number())),
+impl MadeOrder for TwoLevelList {
+    fn made(heap: Global, limit: u32) -> Result<Result<Self, MakerRefusal>, AllocError> {
+        let items = table(heap, limit, Seat { group: 0, rank: 0 })?;
+        let groups = table(heap, limit, 0)?;
+        Ok(TwoLevelList::make(limit, items, groups).map_err(|(refusal, _, _)| refusal))
     }
 }

@@ -1,42 +1,33 @@
 // What the program writes: each line as it came, an arrow, and the answer.
-use std::alloc::AllocError;
-use std::fmt;
+use std::alloc::{AllocError, Global};
+use std::fmt::Display;
 use std::io::Write;
+use text::split::Lines;
 
-// Bytes that are to be written, gathered so that they are written in large parts.
-#[derive(Drop)]
-pub struct Output {
-    bytes: Vec<u8>,
+// Answers all lines of the input, in their order.
+pub fn answer_lines<W: Write, F: FnMut(&[u8]) -> Result<String, AllocError>>(
+    output: &mut W,
+    input: &[u8],
+    mut answer: F,
+) -> anyhow::Result<()>
+    requires { F.IsAlwaysCallable answer }
+{
+    for line in Lines::new(input) {
+        let answer = answer(line)?;
+        output.write_all(line)?;
+        writeln!(output, " -> {answer}")?;
+    }
+    Ok(())
 }
 
-impl Output {
-    pub fn new(rt: &HostRuntime) -> Output {
-        Output {
-            bytes: Vec::new(rt.alloc()),
-        }
-    }
-
-    // Echoes a line with its answer.
-    pub fn answer(&mut self, rt: &HostRuntime, line: &[u8], answer: &str) -> anyhow::Result<()> {
-        self.bytes.extend_from_slice(line)?;
-        self.bytes.extend_from_slice(b" -> ")?;
-        self.line(rt, answer)
-    }
-
-    // Adds a line of the program's own.
-    pub fn line(&mut self, rt: &HostRuntime, text: &str) -> anyhow::Result<()> {
-        self.bytes.extend_from_slice(text.as_bytes())?;
-        self.bytes.push(b'\n')?;
-        if self.bytes.len() >= 65536 {
-            self.flush(rt)?;
-        }
-        Ok(())
-    }
-
-    // Writes what is gathered.
-    pub fn flush(&mut self, rt: &HostRuntime) -> anyhow::Result<()> {
-        rt.stdout().write_all(self.bytes.as_slice())?;
-        self.bytes.clear();
-        Ok(())
+// What a call answers, or why it is refused, as text; a line that asks for no call is none.
+pub fn text_of<T: Display + Drop, E: Display + Drop>(
+    heap: Global,
+    answered: Option<Result<T, E>>,
+) -> Result<String, AllocError> {
+    match answered {
+        Some(Ok(answer)) => answer.to_string(heap),
+        Some(Err(refusal)) => refusal.to_string(heap),
+        None => format!(in heap; "not a line"),
     }
 }

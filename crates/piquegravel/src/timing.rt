@@ -1,7 +1,10 @@
 // The command `time-order`: how long the calls of a version order take. The gate does not run it.
-use crate::orders::{OrderKind, relabelled_list, two_level_list};
+use crate::orders::{MadeOrder, OrderKind};
 use order::VersionOrder;
+use relabelled::list::RelabelledList;
+use std::fmt;
 use std::time::Instant;
+use two_level::list::TwoLevelList;
 
 // How many questions are timed.
 const QUESTIONS: u32 = 10_000_000;
@@ -12,6 +15,16 @@ enum Place {
     Front,
     End,
     Random,
+}
+
+impl fmt::Display for Place {
+    fn fmt<W: fmt::Write>(&self, f: &mut fmt::Formatter<W>) -> fmt::Result {
+        match *self {
+            Place::Front => write!(f, "at the front"),
+            Place::End => write!(f, "at the end"),
+            Place::Random => write!(f, "at random places"),
+        }
+    }
 }
 
 // The next of a row of numbers that look random (a linear congruence of 64 bits).
@@ -52,12 +65,7 @@ fn time_after<O: VersionOrder>(
     }
     let each = start.elapsed(rt)?.as_nanos() / u128::from(n.max(1));
     let count = order.count();
-    let name = match place {
-        Place::Front => "at the front",
-        Place::End => "at the end",
-        Place::Random => "at random places",
-    };
-    println!(rt; "after {name}: {each} ns a call, {count} items")?;
+    println!(rt; "after {place}: {each} ns a call, {count} items")?;
     Ok(())
 }
 
@@ -98,20 +106,19 @@ fn time_place<O: VersionOrder>(
     }
 }
 
-pub fn run_time_order(rt: &HostRuntime, kind: OrderKind, n: u32) -> anyhow::Result<()> {
+// The calls over new orders of one kind, one for each place.
+fn time_all<O: MadeOrder>(rt: &HostRuntime, n: u32) -> anyhow::Result<()> {
     for place in [Place::Front, Place::End, Place::Random] {
-        match kind {
-            OrderKind::Relabelled => {
-                if let Ok(mut order) = relabelled_list(rt.alloc(), 4096)? {
-                    time_place(rt, &mut order, place, n)?;
-                }
-            }
-            OrderKind::TwoLevel => {
-                if let Ok(mut order) = two_level_list(rt.alloc(), 4096)? {
-                    time_place(rt, &mut order, place, n)?;
-                }
-            }
+        if let Ok(mut order) = O::made(rt.alloc(), 4096)? {
+            time_place(rt, &mut order, place, n)?;
         }
     }
     Ok(())
+}
+
+pub fn run_time_order(rt: &HostRuntime, kind: OrderKind, n: u32) -> anyhow::Result<()> {
+    match kind {
+        OrderKind::Relabelled => time_all::<RelabelledList>(rt, n),
+        OrderKind::TwoLevel => time_all::<TwoLevelList>(rt, n),
+    }
 }

@@ -1,6 +1,5 @@
 -- One level of a merge, as the code goes through it.
-use Rattle.std.proofs.Common.{◌≡◌, ℕ, suc, ◌+◌, ◌-◌, ◌<◌, ◌≤◌, Bool, true, false, cond, sym, refl, ap, ◌∙◌, arith}
-use Rattle.refusals.specs.declared.kinds.MemoryRefusal.TheVariants.{OutOfRange}
+use Rattle.std.proofs.Common.{◌≡◌, ℕ, suc, ◌+◌, ◌-◌, ◌<◌, Bool, true, false, cond, sym, refl, ap, ◌∙◌, arith}
 use Rattle.memory.specs.Memory.{Memory}
 use Rattle.memory.specs.Steps.{Done, done, no, then, follow_of, move_of, key_of, nil_of}
 use Rattle.queue_steps.specs.Merge.{hang_of, sink_of, swap_of, merge_of}
@@ -48,8 +47,3 @@ merge_step before d m h =
     let e : 25 - d ≡ suc (25 - (d + 1)) = omega arith in
     let f : suc d ≡ d + 1 = omega arith in
     ap (λ n. merge_of before n d m) e ∙ merge_more before (25 - (d + 1)) d m ∙ ap (λ n. merge_at before (merge_of before (25 - (d + 1))) n d m) f
-
--- and one too many
-pub merge_out : (before : ℕ → ℕ → Bool) (d : ℕ) (m : Memory) → 25 ≤ d → merge_of before (25 - d) d m ≡ no OutOfRange
-unfolding merge_of
-merge_out before d m h = let e : 25 - d ≡ 0 = omega arith in ap (λ n. merge_of before n d m) e

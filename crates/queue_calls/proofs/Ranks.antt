@@ -1,21 +1,10 @@
--- The row that writes a rank: refused where the mark would not fit, and otherwise one write; and the row that hangs a child, by the number of
--- the register that holds it.
-use Rattle.std.proofs.Common.{◌≡◌, ℕ, suc, ◌+◌, ◌<◌, ◌≤◌, true, false, cond, leb, refl, ap, arith}
+-- The row that hangs a child, by the number of the register that holds it.
+use Rattle.std.proofs.Common.{◌≡◌, ℕ, suc, ◌+◌, ◌<◌, true, false, cond, leb, ap, arith}
 use Rattle.std.proofs.lemmas.Bool.Decides.{nat_tests}
-use Rattle.refusals.specs.declared.kinds.MemoryRefusal.TheVariants.{OutOfRange}
 use Rattle.memory.specs.Memory.{Memory}
-use Rattle.memory.specs.Steps.{Done, no, then, follow_of}
-use Rattle.memory.proofs.Numbers.{lt_true, lt_false}
-use Rattle.stored.specs.Writes.{relink_of, renumber_of}
-use Rattle.queue_steps.specs.Merge.{rank_of, next_rank_of, ranked_of, hang_of}
-
-pub rank_spent : (d r : ℕ) (m : Memory) → 4294967295 ≤ r → ranked_of d r m ≡ no OutOfRange
-unfolding ranked_of next_rank_of
-rank_spent d r m h = rw (lt_false r 4294967295 h) refl
-
-pub rank_next : (d r : ℕ) (m : Memory) → r < 4294967295 → ranked_of d r m ≡ renumber_of 1 d (r + 1) m
-unfolding ranked_of next_rank_of
-rank_next d r m h = rw (lt_true r 4294967295 h) (let e : suc r ≡ r + 1 = omega arith in ap (λ n. renumber_of 1 d n m) e)
+use Rattle.memory.specs.Steps.{Done, then, follow_of}
+use Rattle.stored.specs.Writes.{relink_of}
+use Rattle.queue_steps.specs.Merge.{rank_of, ranked_of, hang_of}
 
 -- what is in register next becomes a child of register d's node
 abbrev pub hang_at : ℕ → ℕ → Memory → Done Unit

@@ -2,7 +2,7 @@
 ghost use Rattle.std.specs.Prelude.{◌-◌};
 ghost use Rattle.books.specs.Books.{book_keys};
 ghost use Rattle.places.specs.Places.{place_first};
-ghost use Rattle.memory.specs.Promises.{Runs};
+ghost use Rattle.working.specs.Works.{Works};
 ghost use Rattle.queue_steps.specs.Merge.{merge_of};
 ghost use Rattle.queue_calls.specs.Rows.{lead_of};
 
@@ -13,44 +13,45 @@ use memory::pointer::PointerMemory;
 use order::VersionOrder;
 use places::place_first;
 use refusals::kinds::MemoryRefusal;
+use working::Working;
 
 // The heap whose first job goes before the other's comes into register d.
+#[tactic(auto, unfolding(crate::specs::Rows::lead_of))]
 fn lead<K: Key, M: PointerMemory, O: VersionOrder>(
-    mem: &mut M,
-    order: &O,
+    work: &mut Working<'_, M, O>,
     book: &Book<K>,
     d: usize,
 ) -> Result<(), MemoryRefusal>
-    ensures { Runs (λ s. M.PointerMemory.means s (O.VersionOrder.items order.now)) mem.old mem.new result (lead_of (place_first K.Key.first (book_keys book.now)) d) }
+    ensures { Works M.means O.items work.old work.new result (lead_of (place_first K.first (book_keys book.now)) d) }
 {
-    let there = mem.key(order, 39)?;
-    let here = mem.key(order, d)?;
+    let there = work.key(39)?;
+    let here = work.key(d)?;
     if place_first(book, there, here) {
-        return swap(mem, order, d);
+        return swap(work, d);
     }
     Ok(())
 }
 
 // The heap of register 39 joins that of register d.
+#[tactic(auto, unfolding(queue_steps::specs::Merge::merge_of))]
 pub(crate) fn merge<K: Key, M: PointerMemory, O: VersionOrder>(
-    mem: &mut M,
-    order: &O,
+    work: &mut Working<'_, M, O>,
     book: &Book<K>,
     d: usize,
 ) -> Result<(), MemoryRefusal>
-    ensures { Runs (λ s. M.PointerMemory.means s (O.VersionOrder.items order.now)) mem.old mem.new result (merge_of (place_first K.Key.first (book_keys book.now)) (25 - d) d) }
+    ensures { Works M.means O.items work.old work.new result (merge_of (place_first K.first (book_keys book.now)) (25 - d) d) }
 {
     if d >= 25 {
         return Err(MemoryRefusal::OutOfRange);
     }
-    if mem.is_nil(order, 39)? {
+    if work.is_nil(39)? {
         return Ok(());
     }
-    if mem.is_nil(order, d)? {
-        return mem.copy(order, 39, d);
+    if work.is_nil(d)? {
+        return work.copy(39, d);
     }
-    lead(mem, order, book, d)?;
-    mem.follow(order, d, 1, d + 1)?;
-    merge(mem, order, book, d + 1)?;
-    hang(mem, order, d)
+    lead(work, book, d)?;
+    work.follow(d, 1, d + 1)?;
+    merge(work, book, d + 1)?;
+    hang(work, d)
 }

@@ -5,10 +5,13 @@ ghost use Rattle.std.specs.Prelude.{◌≡◌, ℕ};
 ghost use Rattle.refusals.specs.Numbers.{maker_number, store_number, book_number, name_number, memory_number, order_number};
 
 pub mod kinds;
+pub mod shown;
 
 use kinds::{BookRefusal, MakerRefusal, MemoryRefusal, NameRefusal, OrderRefusal, StoreRefusal};
 
 // A refusal, known outside by its number.
+// As discriminants of the variants the numbers would have no place for `Order(below)`, whose number is the order's own;
+// and one way for all six is plainer than two.
 pub trait Refusal: Copy {
     ghost numbered: { Self → ℕ };
 

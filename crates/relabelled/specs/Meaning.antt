@@ -9,8 +9,8 @@ use Rattle.relabelled.specs.declared.list.RelabelledList.{RelabelledList}
 
 -- the items, first to last
 abbrev pub relabelled_items : RelabelledList → List ℕ
-relabelled_items o = listed (vec_items o.rows) o.count
+relabelled_items o = listed (vec_items o.table.rows) o.table.count
 
 -- the items, first to last, each with its label
 abbrev pub relabelled_entries : RelabelledList → Entries
-relabelled_entries o = labelled (vec_items o.rows) o.count
+relabelled_entries o = labelled (vec_items o.table.rows) o.table.count

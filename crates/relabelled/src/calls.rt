@@ -7,60 +7,44 @@ ghost use Rattle.relabelled.specs.Meaning.{relabelled_items, relabelled_entries}
 ghost use Rattle.relabelled.specs.Held.{items_distinct, items_limit, items_numbered};
 
 use crate::list::RelabelledList;
-use crate::place::place;
-use crate::refusing::after_refusal;
 use labels::Labelled;
+use linked_lists::refusing::check_table;
 use linked_lists::row::Row;
+use linked_lists::table::Table;
 use order::VersionOrder;
 use refusals::kinds::{MakerRefusal, OrderRefusal};
 
 impl RelabelledList {
     // A list of item 0 alone, with label 0. A refusal hands the table back as it was.
-    pub fn make(limit: u32, rows: Vec<Row>) -> Result<Self, (MakerRefusal, Vec<Row>)>
-        ensures { MatchResult result (λ o. (maker_refusal limit (nat_lt (vec_len rows) limit) ≡ None) × (relabelled_items o ≡ 0 ∷ []) × (relabelled_entries o ≡ fresh) × (o.limit ≡ limit)) (λ e. (maker_refusal limit (nat_lt (vec_len rows) limit) ≡ Some e.0) × (e.1 ≡ rows)) }
+    pub fn make(limit: u32, rows: Vec<Row<u32>>) -> Result<Self, (MakerRefusal, Vec<Row<u32>>)>
+        ensures { MatchResult result (λ o. (maker_refusal limit (nat_lt (vec_len rows) limit) ≡ None) × (relabelled_items o ≡ 0 ∷ []) × (relabelled_entries o ≡ fresh) × (o.table.limit ≡ limit)) (λ e. (maker_refusal limit (nat_lt (vec_len rows) limit) ≡ Some e.0) × (e.1 ≡ rows)) }
     {
-        if limit < 1 || limit > 4096 {
-            return Err((MakerRefusal::LimitOutOfRange, rows));
+        match check_table(limit, rows.len()) {
+            Ok(()) => Ok(RelabelledList {
+                table: Table::fresh(limit, rows, 0),
+            }),
+            Err(refusal) => Err((refusal, rows)),
         }
-        if rows.len() < limit as usize {
-            return Err((MakerRefusal::TableTooShort, rows));
-        }
-        let mut rows = rows;
-        rows[0] = Row {
-            label: 0,
-            next: None,
-            prev: None,
-        };
-        Ok(RelabelledList {
-            rows,
-            count: 1,
-            limit,
-        })
     }
 
     // Puts a new item right behind a and answers its number, which is the count of items before the call.
-    // The labels of all items afterwards are those of the rule.
+    // The labels of all items afterwards are those of the rule: the order's own `after` has no word for them.
     pub fn after(&mut self, a: u32) -> Result<u32, OrderRefusal>
-        ensures answer { result ≡ after_answer (relabelled_items self.old) self.old.limit a }
+        ensures answer { result ≡ after_answer (relabelled_items self.old) self.old.table.limit a }
         ensures items { relabelled_items self.new ≡ items_after result (relabelled_items self.old) a }
         ensures labels { relabelled_entries self.new ≡ entries_after result (relabelled_entries self.old) a }
-        ensures limit { self.new.limit ≡ self.old.limit }
+        ensures limit { self.new.table.limit ≡ self.old.table.limit }
         ensures refused { OnErr result (self.new ≡ self.old) }
     {
-        let n = self.count;
-        if let Some(refusal) = after_refusal(n, self.limit, a) {
-            return Err(refusal);
-        }
-        place(&mut self.rows, n, a);
-        self.count = n + 1;
-        Ok(n)
+        self.table.check_after(a)?;
+        Ok(self.place(a))
     }
 }
 
 impl VersionOrder for RelabelledList {
     ghost items = { λ o. relabelled_items o };
 
-    ghost limit = { λ o. o.limit };
+    ghost limit = { λ o. o.table.limit };
 
     ghost once = { λ o. items_distinct o };
 
@@ -69,21 +53,15 @@ impl VersionOrder for RelabelledList {
     ghost numbered = { λ o a. items_numbered o a };
 
     fn count(&self) -> u32 {
-        self.count
+        self.table.count()
     }
 
     fn before(&self, a: u32, b: u32) -> Result<bool, OrderRefusal> {
-        if a >= self.count || b >= self.count {
-            return Err(OrderRefusal::UnknownItem);
-        }
-        Ok(self.rows[a as usize].label < self.rows[b as usize].label)
+        Ok(self.table.row(a)?.tag < self.table.row(b)?.tag)
     }
 
     fn successor(&self, a: u32) -> Result<Option<u32>, OrderRefusal> {
-        if a >= self.count {
-            return Err(OrderRefusal::UnknownItem);
-        }
-        Ok(self.rows[a as usize].next)
+        self.table.successor(a)
     }
 
     fn after(&mut self, a: u32) -> Result<u32, OrderRefusal> {
@@ -96,9 +74,6 @@ impl Labelled for RelabelledList {
     ghost labels = { λ o a. label_answer (relabelled_entries o) a };
 
     fn label(&self, a: u32) -> Result<u32, OrderRefusal> {
-        if a >= self.count {
-            return Err(OrderRefusal::UnknownItem);
-        }
-        Ok(self.rows[a as usize].label)
+        Ok(self.table.row(a)?.tag)
     }
 }

@@ -2,8 +2,7 @@
 #![tactic(auto)]
 
 pub mod calls;
-mod links;
 pub mod list;
 mod place;
 mod ranges;
-pub mod refusing;
+mod spreading;

@@ -1,12 +1,10 @@
-// The relabelled list: its table, how many items it holds, and how many it may hold.
-ghost use Rattle.linked_lists.specs.Chain.{Sound};
+// The relabelled list: a table of items that carry labels, which rise from the first to the last.
+ghost use Rattle.linked_lists.specs.Chain.{Above, label_at, listed};
 
-use linked_lists::row::Row;
+use linked_lists::table::Table;
 
 #[derive(Drop)]
 pub struct RelabelledList {
-    pub(crate) rows: Vec<Row>,
-    pub(crate) count: u32,
-    pub(crate) limit: u32,
-    ghost sound: { ∥ Sound rows.items count limit ∥₁ },
+    pub(crate) table: Table<u32>,
+    ghost rising: { ∥ Above (label_at table.rows.items) 0 (listed table.rows.items table.count) ∥₁ },
 }

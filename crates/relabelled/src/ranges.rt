@@ -1,106 +1,80 @@
 // Finds the range of labels that can take one item more.
-ghost use Rattle.std.specs.Prelude.{◌≡◌, ◌+◌, ◌^◌, ◌<◌, ◌≤◌, vec_len};
+ghost use Rattle.std.specs.Prelude.{◌≡◌, ◌+◌, ◌^◌, ◌<◌, ◌≤◌};
 ghost use Rattle.labels.specs.Labels.{count_in, next_label, width};
-ghost use Rattle.linked_lists.specs.Chain.{Chained, label_at, labelled};
 ghost use Rattle.labels.specs.Ranges.{first_from};
+ghost use Rattle.linked_lists.specs.Chain.{label_at};
 ghost use Rattle.linked_lists.specs.Ranges.{Around};
+ghost use Rattle.relabelled.specs.Meaning.{relabelled_entries};
 
+use crate::list::RelabelledList;
 use labels::room;
 use linked_lists::range::Range;
-use linked_lists::row::Row;
 
-// The first of the `n` items whose label is at least `base`, `a` being one of them.
-pub(crate) fn first_from(rows: &Vec<Row>, n: u32, a: u32, base: u32) -> u32
-    requires chain { Chained rows.now.items n }
-    requires room { n ≤ vec_len rows.now }
-    requires known { a < n }
-    requires from { base ≤ label_at rows.now.items a }
-    ensures first { result ≡ first_from base (labelled rows.now.items n) }
-    ensures known { result < n }
-    ensures from { base ≤ label_at rows.now.items result }
-{
-    let mut x = a;
-    while let Some(y) = rows[x as usize].prev {
-        if rows[y as usize].label < base {
-            break;
+impl RelabelledList {
+    // The first of the items whose label is at least `base`, `a` being one of them.
+    fn first_from(&self, a: u32, base: u32) -> u32
+        requires known { a < self.now.table.count }
+        requires from { base ≤ label_at self.now.table.rows.items a }
+        ensures first { result ≡ first_from base (relabelled_entries self.now) }
+        ensures known { result < self.now.table.count }
+        ensures from { base ≤ label_at self.now.table.rows.items result }
+    {
+        self.table.back_while(a, |label| label >= base)
+    }
+
+    // How many items the range has, `first` being its first item.
+    fn count_in(&self, first: u32, base: u32, size: u32) -> u32
+        requires known { first < self.now.table.count }
+        requires from { base ≤ label_at self.now.table.rows.items first }
+        requires starts { first ≡ first_from base (relabelled_entries self.now) }
+        requires top { base + size ≤ 2 ^ 31 }
+        ensures { result ≡ count_in base size (relabelled_entries self.now) }
+    {
+        let end = base + size;
+        self.table.run_while(first, |label| label < end)
+    }
+
+    // The aligned range of 2^i labels around the label of `a`.
+    fn range_at(&self, a: u32, i: u32) -> Range
+        requires known { a < self.now.table.count }
+        requires at { i < 32 }
+        ensures { Around (relabelled_entries self.now) (label_at self.now.table.rows.items a) i result }
+    {
+        let label = self.table.at(a).tag;
+        let size = 1u32 << i;
+        let base = label / size * size;
+        let first = self.first_from(a, base);
+        let crowd = 1 + self.count_in(first, base, size);
+        Range {
+            base,
+            size,
+            first,
+            crowd,
         }
-        x = y;
     }
-    x
-}
 
-// How many items the range has, `first` being its first item.
-pub(crate) fn count_in(rows: &Vec<Row>, n: u32, first: u32, base: u32, size: u32) -> u32
-    requires chain { Chained rows.now.items n }
-    requires room { n ≤ vec_len rows.now }
-    requires known { first < n }
-    requires from { base ≤ label_at rows.now.items first }
-    requires starts { first ≡ first_from base (labelled rows.now.items n) }
-    requires top { base + size ≤ 2 ^ 31 }
-    ensures { result ≡ count_in base size (labelled rows.now.items n) }
-{
-    let end = base + size;
-    let mut next = Some(first);
-    let mut k = 0;
-    while let Some(x) = next {
-        let row = rows[x as usize];
-        if row.label >= end {
-            break;
+    // The smallest range around the label of `a` that has room for one item more.
+    pub(crate) fn roomy(&self, a: u32) -> Range
+        requires { a < self.now.table.count }
+        ensures { Around (relabelled_entries self.now) (label_at self.now.table.rows.items a) (width (relabelled_entries self.now) (label_at self.now.table.rows.items a)) result }
+    {
+        for i in 0..31 {
+            let range = self.range_at(a, i);
+            if room(i) >= u64::from(range.crowd) {
+                return range;
+            }
         }
-        k += 1;
-        next = row.next;
+        self.range_at(a, 31)
     }
-    k
-}
 
-// The aligned range of 2^i labels around the label of `a`.
-pub(crate) fn range_at(rows: &Vec<Row>, n: u32, a: u32, i: u32) -> Range
-    requires chain { Chained rows.now.items n }
-    requires room { n ≤ vec_len rows.now }
-    requires known { a < n }
-    requires few { n ≤ 4096 }
-    requires at { i < 32 }
-    ensures { Around (labelled rows.now.items n) (label_at rows.now.items a) i result }
-{
-    let label = rows[a as usize].label;
-    let size = 1u32 << i;
-    let base = label / size * size;
-    let first = first_from(rows, n, a, base);
-    let crowd = 1 + count_in(rows, n, first, base, size);
-    Range {
-        base,
-        size,
-        first,
-        crowd,
-    }
-}
-
-// The smallest range around the label of `a` that has room for one item more.
-pub(crate) fn roomy(rows: &Vec<Row>, n: u32, a: u32) -> Range
-    requires chain { Chained rows.now.items n }
-    requires room { n ≤ vec_len rows.now }
-    requires known { a < n }
-    requires few { n ≤ 4096 }
-    ensures { Around (labelled rows.now.items n) (label_at rows.now.items a) (width (labelled rows.now.items n) (label_at rows.now.items a)) result }
-{
-    let mut i: u32 = 0;
-    let mut range = range_at(rows, n, a, 0);
-    while i < 31 && range.crowd as u64 > room(i) {
-        i += 1;
-        range = range_at(rows, n, a, i);
-    }
-    range
-}
-
-// The label behind `a`, or 2^31 where `a` is the last.
-pub(crate) fn end_of(rows: &Vec<Row>, n: u32, a: u32) -> u32
-    requires chain { Chained rows.now.items n }
-    requires room { n ≤ vec_len rows.now }
-    requires known { a < n }
-    ensures { result ≡ next_label (labelled rows.now.items n) a }
-{
-    match rows[a as usize].next {
-        Some(b) => rows[b as usize].label,
-        None => 0x8000_0000,
+    // The label behind `a`, or 2^31 where `a` is the last.
+    pub(crate) fn end_of(&self, a: u32) -> u32
+        requires { a < self.now.table.count }
+        ensures { result ≡ next_label (relabelled_entries self.now) a }
+    {
+        match self.table.at(a).next {
+            Some(b) => self.table.at(b).tag,
+            None => 0x8000_0000,
+        }
     }
 }

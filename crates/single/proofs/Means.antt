@@ -1,33 +1,24 @@
 -- What the calls leave means what the steps come to.
-use Rattle.std.proofs.Common.{◌≡◌, ℕ, ◌+◌, ◌-◌, ◌<◌, ◌≤◌, Bool, true, false, cond, leb, List, length, get_or, set, is_some, Some, None, vec_items, vec_len, Option, sym, refl, ap, ◌∙◌, subst, arith, length-set}
+use Rattle.std.proofs.Common.{◌≡◌, ℕ, suc, ◌+◌, ◌-◌, ◌<◌, ◌≤◌, Bool, true, false, cond, leb, List, length, get_or, set, Some, None, vec_items, Option, sym, refl, ap, ◌∙◌, subst, arith}
 use Rattle.std.proofs.lemmas.Bool.Decides.{nat_tests}
 use Rattle.memory.specs.Memory.{Node, Memory, changed, put, hits, with_link, with_number, new_node, renamed, names_of}
+use Rattle.memory.specs.Steps.{Kind, of_link, of_number, written}
 use Rattle.memory.specs.Effects.{Holds, Free}
-use Rattle.memory.proofs.Numbers.{put_other, lt_from, le_true, eq_true, hits_none}
+use Rattle.memory.proofs.Numbers.{put_other, lt_from, le_true, eq_true, some_same, hits_none}
 use Rattle.single.specs.declared.node.Node.{Node as Row}
 use Rattle.single.specs.declared.store.SingleMemory.{SingleMemory}
-use Rattle.single.specs.Rows.{below, all_below, new_row, row_linked, row_valued, row_marked, row_named, blank, names_at, raised, lowered, crowds}
-use Rattle.single.specs.Single.{SameNode, RowsMean, SingleMeans}
+use Rattle.single.specs.Rows.{below, all_below, new_row, row_linked, row_valued, row_marked, row_named, blank, raised, lowered, crowds}
+use Rattle.single.specs.Single.{SameNode, RowsMean, SingleMeans, Changed}
 use Rattle.single.specs.Making.{make_refusal}
-use Rattle.single.proofs.Table.{all_at, all_none, none_at, more, ref_low, any_default, at_set, array_set, renamed_at, length_raised, length_renamed, Fine, fine_set, fine_more, fine_renamed, crowds_set}
+use Rattle.single.proofs.Table.{all_at, all_none, none_at, more, ref_low, at_set, array_set, renamed_at, Fine, fine_more}
 
 -- the table of a memory is fine
 pub fine : (s : SingleMemory) → Fine s.made (vec_items s.rows)
 fine s = record { linked = s.linked; two = s.two; named = s.named }
 
--- 20 never comes: any order is accepted
-pub untrue : {X : Type 0} → ◌≡◌ {A = Bool} true false → X
-untrue e = let z : ◌≡◌ {A = ℕ} 0 1 = cc in let y : ⊥ = omega arith in absurd y
-
 -- the table has a row for every node made
 pub table_long : (s : SingleMemory) → s.made ≤ length (vec_items s.rows)
 table_long s = let a = s.rows.ok.0 in let b = s.few in let d = s.roomy in omega arith
-
-pub long_set : (s : SingleMemory) (k : ℕ) (r : Row) → s.made ≤ length (set (vec_items s.rows) k r)
-long_set s k r = let a = table_long s in let b = length-set (vec_items s.rows) k r in omega arith
-
-pub length_linked : (xs ys : List Row) (k : ℕ) (r : Row) (old new : Option ℕ) → ys ≡ lowered (raised (set xs k r) new) old → length ys ≡ length xs
-length_linked xs ys k r old new e = length_renamed (set xs k r) ys old new e ∙ length-set xs k r
 
 pub reg_below : (s : SingleMemory) (reg : ℕ) → below s.made (get_or s.regs reg None) ≡ true
 reg_below s reg = all_at s.made s.regs s.held reg
@@ -35,35 +26,19 @@ reg_below s reg = all_at s.made s.regs s.held reg
 pub root_below : (s : SingleMemory) (root : ℕ) → below s.made (get_or s.roots root None) ≡ true
 root_below s root = all_at s.made s.roots s.rooted root
 
-pub in_table : (s : SingleMemory) (x : Option ℕ) → below s.made x ≡ true → below (vec_len s.rows) x ≡ true
-in_table s x h = more s.made (vec_len s.rows) x (let b = s.few in let d = s.roomy in omega arith) h
-
--- what is in the table is in it after names are raised
-pub raised_in : (n made : ℕ) (xs ys : List Row) (to old : Option ℕ) → ys ≡ raised xs to → n ≡ length ys → made ≤ length xs → below made old ≡ true → below n old ≡ true
-raised_in n made xs ys to old e en l h = more made n old (let a = ap length e in let b = length_raised xs to in omega arith) h
-
 -- A register that holds a node.
 
 pub held_low : (s : SingleMemory) (reg k : ℕ) → get_or s.regs reg None ≡ Some k → k < s.made
 held_low s reg k e = ref_low s.made (get_or s.regs reg None) k (reg_below s reg) e
-
-pub held_in : (s : SingleMemory) (reg k : ℕ) → get_or s.regs reg None ≡ Some k → k < vec_len s.rows
-held_in s reg k e = let l = held_low s reg k e in let b = s.few in let d = s.roomy in omega arith
 
 pub holds : (s : SingleMemory) (m : Memory) (reg k : ℕ) (r : Row) → SingleMeans s m → r ≡ get_or (vec_items s.rows) k r → reg < 40 → get_or s.regs reg None ≡ Some k → (n : Node) × Holds m reg k n × SameNode n r
 holds s m reg k r M f l e =
     let N = M.rows.node k r (held_low s reg k e) in
     (N.0, record { low = l; names = M.regs reg l ∙ e; node = N.1 }, subst (SameNode N.0) (sym f) N.2)
 
-some_of : (x : Option ℕ) → is_some x ≡ true → (k : ℕ) × (x ≡ Some k)
-some_of None h = let z : ◌≡◌ {A = ℕ} 0 1 = cc in let y : ⊥ = omega arith in absurd y
-some_of (Some k) h = (k, refl)
-
-pub holds_some : (s : SingleMemory) (m : Memory) (reg : ℕ) → SingleMeans s m → reg < 40 → is_some (get_or s.regs reg None) ≡ true → (k : ℕ) × (n : Node) × Holds m reg k n
-holds_some s m reg M l h =
-    let e = some_of (get_or s.regs reg None) h in
-    let N = M.rows.node e.0 blank (held_low s reg e.0 e.1) in
-    (e.0, N.0, record { low = l; names = M.regs reg l ∙ e.1; node = N.1 })
+-- the row k is that of the node k
+pub same_row : (s : SingleMemory) (m : Memory) (k : ℕ) (r : Row) (n : Node) → SingleMeans s m → r ≡ get_or (vec_items s.rows) k r → k < s.made → m.state.nodes k ≡ Some n → SameNode n r
+same_row s m k r n M f l e = let N = M.rows.node k r l in subst (λ y. SameNode y r) (some_same (sym N.1 ∙ e)) (subst (SameNode N.0) (sym f) N.2)
 
 pub row_below : (s : SingleMemory) (k : ℕ) (r : Row) → r ≡ get_or (vec_items s.rows) k r → k < s.made → all_below s.made r.links ≡ true
 row_below s k r e l = subst (λ (y : Row). all_below s.made y.links ≡ true) (sym e) (s.linked k r l)
@@ -76,9 +51,6 @@ row_few s k r e l = subst (λ (y : Row). y.names ≤ 2) (sym e) (s.named k r l)
 
 pub row_names : (s : SingleMemory) (m : Memory) (k : ℕ) (r : Row) → SingleMeans s m → r ≡ get_or (vec_items s.rows) k r → k < s.made → r.names ≡ m.state.names k
 row_names s m k r M e l = ap (λ (y : Row). y.names) e ∙ sym (M.rows.named k r l)
-
-pub row_blank : (s : SingleMemory) (k : ℕ) (r : Row) → r ≡ get_or (vec_items s.rows) k r → k < s.made → r.names ≡ (get_or (vec_items s.rows) k blank).names
-row_blank s k r e l = ap (λ (y : Row). y.names) (e ∙ any_default (vec_items s.rows) k r blank (let a = table_long s in omega arith))
 
 pub free : (s : SingleMemory) (m : Memory) → SingleMeans s m → s.changed < s.change_limit → Free m
 free s m M l = record { writable = M.writable; left = let a = M.changed in let b = M.change_limit in omega arith }
@@ -137,10 +109,6 @@ born_rows s m r key value mark M e l = node_born (vec_items s.rows) s.made r (ne
 
 -- A link or root written.
 
-pub names_few : (n : ℕ) (xs : List Row) (x : Option ℕ) → Fine n xs → below n x ≡ true → names_at xs x ≤ 2
-names_few n xs None F h = omega arith
-names_few n xs (Some k) F h = F.named k blank (lt_from k n h)
-
 far : (n i : ℕ) (x : Option ℕ) → below n x ≡ true → n ≤ i → hits i x ≡ 0
 far n i x h l = hits_none i x (λ e. let z = ref_low n x i h e in omega arith)
 
@@ -173,21 +141,6 @@ crowds_too xs made old None nodes names n R h = let z : ◌≡◌ {A = ℕ} 0 1 
 crowds_too xs made None (Some k) nodes names n R h = let l = lt_from k made n in let a = R.named k blank l in grind (arith, nat_tests)
 crowds_too xs made (Some j) (Some k) nodes names n R h = let l = lt_from k made n in let a = R.named k blank l in grind (arith, nat_tests)
 
--- a link of the row k, which is r, that held `old` holds `new`
-pub link_rows : (xs ys : List Row) (made k : ℕ) (r : Row) (n : Node) (side : ℕ) (old new : Option ℕ) (nodes : ℕ → Option Node) (names : ℕ → ℕ) → RowsMean xs made nodes names → k < made → made ≤ length xs → SameNode n r → r.names ≡ names k
-    → below made old ≡ true → below made new ≡ true → ys ≡ lowered (raised (set xs k r) new) old → RowsMean ys made (put nodes k (Some n)) (renamed names old new)
-link_rows xs ys made k r n side old new nodes names R l len S q o e ey =
-    let len' : length (set xs k r) ≡ length xs = length-set xs k r in
-    subst (λ zs. RowsMean zs made (put nodes k (Some n)) (renamed names old new)) (sym ey)
-    (rows_renamed (set xs k r) made old new (put nodes k (Some n)) names (omega arith) o e (node_set_lem xs made k r n nodes names l (omega arith) S q R))
-
-pub link_fine : (xs ys : List Row) (made k : ℕ) (r : Row) (old new : Option ℕ) → Fine made xs → k < made → made ≤ length xs → all_below made r.links ≡ true → length r.links ≡ 2 → r.names ≡ (get_or xs k blank).names
-    → below made old ≡ true → below made new ≡ true → crowds xs old new ≡ false → ys ≡ lowered (raised (set xs k r) new) old → Fine made ys
-link_fine xs ys made k r old new F l len b two q o e c ey =
-    let len' : length (set xs k r) ≡ length xs = length-set xs k r in
-    let f = F.named k blank l in
-    subst (Fine made) (sym ey) (fine_renamed made (set xs k r) old new (omega arith) o e (crowds_set xs k r old new (omega arith) q ∙ c) (fine_set made xs k r (omega arith) F b two (omega arith)))
-
 -- The same at the registers of a memory.
 
 pub reg_crowds : (s : SingleMemory) (m : Memory) (reg : ℕ) (old : Option ℕ) → SingleMeans s m → reg < 40 → crowds (vec_items s.rows) old (get_or s.regs reg None) ≡ true → leb (names_of (renamed m.state.names old (m.regs reg)) (m.regs reg)) 2 ≡ false
@@ -196,21 +149,29 @@ reg_crowds s m reg old M h e = rw (M.regs reg h) (crowds_too (vec_items s.rows) 
 pub reg_few : (s : SingleMemory) (m : Memory) (reg : ℕ) (old : Option ℕ) → SingleMeans s m → reg < 40 → crowds (vec_items s.rows) old (get_or s.regs reg None) ≡ false → names_of (renamed m.state.names old (m.regs reg)) (m.regs reg) ≤ 2
 reg_few s m reg old M h e = rw (M.regs reg h) (crowds_not (vec_items s.rows) s.made old (get_or s.regs reg None) m.state.nodes m.state.names (fine s) (reg_below s reg) M.rows e)
 
--- the rows after a root was written
-pub save_rows : (s : SingleMemory) (m : Memory) (root reg : ℕ) (ys : List Row) → SingleMeans s m → root < 3 → reg < 40 → ys ≡ lowered (raised (vec_items s.rows) (get_or s.regs reg None)) (get_or s.roots root None)
-    → RowsMean ys s.made m.state.nodes (renamed m.state.names (m.state.roots root) (m.regs reg))
-save_rows s m root reg ys M l h e =
-    rw (M.roots root l) (rw (M.regs reg h) (subst (λ xs. RowsMean xs s.made m.state.nodes (renamed m.state.names (get_or s.roots root None) (get_or s.regs reg None))) (sym e)
-    (rows_renamed (vec_items s.rows) s.made (get_or s.roots root None) (get_or s.regs reg None) m.state.nodes m.state.names (table_long s) (root_below s root) (reg_below s reg) M.rows)))
+-- a memory t that counted one change more than s
+pub change_means : (s t : SingleMemory) (m : Memory) (kind : Kind) (xs : List Row) (names : ℕ → ℕ) → SingleMeans s m → Changed s t xs → RowsMean xs s.made m.state.nodes names
+    → SingleMeans t (written kind m (record { roots = m.state.roots; nodes = m.state.nodes; names = names }))
+change_means s t m kind xs names M D R = record {
+  roots = rw D.roots M.roots;
+  regs = rw D.regs M.regs;
+  rows = rw D.rows (rw D.made R);
+  made = M.made ∙ sym D.made;
+  changed = omega (arith, one_more kind, M.changed, D.changed);
+  node_limit = M.node_limit ∙ sym D.node_limit;
+  change_limit = M.change_limit ∙ sym D.change_limit;
+  writable = M.writable;
+}
+  where
+    one_more : (kind : Kind) → changed (written kind m m.state) ≡ suc (changed m)
+    one_more of_link = omega arith
+    one_more of_number = omega arith
 
--- the rows after the link of the row k, which is r, was written
-pub link_rows_at : (s : SingleMemory) (m : Memory) (reg k : ℕ) (r : Row) (n : Node) (side : ℕ) (old : Option ℕ) (ys : List Row) → SingleMeans s m → reg < 40 → r ≡ get_or (vec_items s.rows) k r → k < s.made → side < length r.links → SameNode n r
-    → old ≡ n.links side → below s.made old ≡ true → ys ≡ lowered (raised (set (vec_items s.rows) k (row_linked side (get_or s.regs reg None) r)) (get_or s.regs reg None)) old
-    → RowsMean ys s.made (put m.state.nodes k (Some (with_link side (m.regs reg) n))) (renamed m.state.names (n.links side) (m.regs reg))
-link_rows_at s m reg k r n side old ys M h e l w S eo o ey =
-    let x = get_or s.regs reg None in
-    rw (M.regs reg h) (subst (λ v. RowsMean ys s.made (put m.state.nodes k (Some (with_link side x n))) (renamed m.state.names v x)) eo
-    (link_rows (vec_items s.rows) ys s.made k (row_linked side x r) (with_link side x n) side old x m.state.nodes m.state.names M.rows l (table_long s) (same_linked n r side x x w refl S) (row_names s m k r M e l) o (reg_below s reg) ey))
+-- and moved a name from `old` to `new`
+pub rename_means : (s t : SingleMemory) (m : Memory) (old new : Option ℕ) → SingleMeans s m → Changed s t (lowered (raised (vec_items s.rows) new) old) → below s.made old ≡ true → below s.made new ≡ true
+    → SingleMeans t (written of_link m (record { roots = m.state.roots; nodes = m.state.nodes; names = renamed m.state.names old new }))
+rename_means s t m old new M D o e = change_means s t m of_link (lowered (raised (vec_items s.rows) new) old) (renamed m.state.names old new) M D
+    (rows_renamed (vec_items s.rows) s.made old new m.state.nodes m.state.names (table_long s) o e M.rows)
 
 pub make_none : (n c len : ℕ) → 1 ≤ n → n ≤ 4096 → 160 ≤ c → c ≤ 16384 → n ≤ len → make_refusal n c len ≡ None
 make_none n c len a b d e f = rw (le_true 1 n a) (rw (le_true n 4096 b) (rw (le_true 160 c d) (rw (le_true c 16384 e) (rw (le_true n len f) refl))))

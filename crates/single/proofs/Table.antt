@@ -1,11 +1,11 @@
 -- Arrays of links, and rows of the table: what stays in range, and what a write leaves.
-use Rattle.std.proofs.Common.{◌≡◌, ℕ, zero, suc, ◌+◌, ◌-◌, ◌<◌, ◌≤◌, Bool, true, false, cond, leb, List, [], ◌∷◌, length, get_or, set, replicate, Some, None, Option, sym, refl, ap, ◌∙◌, subst, ⊎_elim, arith, length-set, get_or-set_other, get_or-set_same}
+use Rattle.std.proofs.Common.{◌≡◌, ℕ, zero, suc, ◌+◌, ◌-◌, ◌<◌, ◌≤◌, Bool, true, false, cond, List, [], ◌∷◌, length, get_or, set, replicate, Some, None, Option, sym, refl, ap, ◌∙◌, subst, ⊎_elim, arith, length-set, get_or-set_other, get_or-set_same}
 use Rattle.std.proofs.lemmas.Bool.{cases_eq}
 use Rattle.std.proofs.lemmas.Bool.Decides.{nat_tests}
 use Rattle.memory.specs.Memory.{put, hits}
 use Rattle.memory.proofs.Numbers.{put_other, lt_from, lt_true, eq_true, eq_false, some_same, none_some, hits_none}
 use Rattle.single.specs.declared.node.Node.{Node as Row}
-use Rattle.single.specs.Rows.{below, all_below, row_named, blank, raised, lowered, is_at, crowds}
+use Rattle.single.specs.Rows.{below, all_below, row_named, blank, raised, lowered, crowds}
 
 both : (a b : Bool) → cond a b false ≡ true → (a ≡ true) × (b ≡ true)
 both true b h = (refl, h)
@@ -69,13 +69,6 @@ array_set xs b j v w f lj e h i l = at_set (λ y. put f j v i ≡ y) xs j i w No
 pub length_raised : (xs : List Row) (x : Option ℕ) → length (raised xs x) ≡ length xs
 length_raised xs None = refl
 length_raised xs (Some k) = length-set xs k _
-
-pub length_lowered : (xs : List Row) (x : Option ℕ) → length (lowered xs x) ≡ length xs
-length_lowered xs None = refl
-length_lowered xs (Some k) = length-set xs k _
-
-pub length_renamed : (xs ys : List Row) (old new : Option ℕ) → ys ≡ lowered (raised xs new) old → length ys ≡ length xs
-length_renamed xs ys old new e = ap length e ∙ length_lowered (raised xs new) old ∙ length_raised xs new
 
 same_named : (r : Row) (q : ℕ) → r.names ≡ q → r ≡ row_named q r
 same_named r q e = subst (λ u. r ≡ row_named u r) e refl
@@ -143,11 +136,3 @@ fine_renamed n xs old new w o e q F =
       two = λ i d l. subst (λ (y : Row). length y.links ≡ 2) (sym (renamed_at xs old new i d o' e')) (F.two i d l);
       named = λ i d l. subst (λ (y : Row). y.names ≤ 2) (sym (renamed_at xs old new i d o' e')) (few_named xs old new i d q (λ f. any_default xs i blank d (ref_low (length xs) new i e' f)) (F.named i d l));
     }
-
--- the names of what is crowded do not depend on other parts of the rows
-crowds_same : (xs zs : List Row) (old new : Option ℕ) → ((j : ℕ) → (get_or zs j blank).names ≡ (get_or xs j blank).names) → crowds zs old new ≡ crowds xs old new
-crowds_same xs zs old None h = refl
-crowds_same xs zs old (Some k) h = ap (λ q. cond (is_at old k) false (leb 2 q)) (h k)
-
-pub crowds_set : (xs : List Row) (k : ℕ) (r : Row) (old new : Option ℕ) → k < length xs → r.names ≡ (get_or xs k blank).names → crowds (set xs k r) old new ≡ crowds xs old new
-crowds_set xs k r old new l e = crowds_same xs (set xs k r) old new (λ j. at_set (λ (y : Row). y.names ≡ (get_or xs j blank).names) xs k j r blank l (λ f. e ∙ ap (λ u. (get_or xs u blank).names) f) (λ f. refl))

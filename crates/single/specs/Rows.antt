@@ -5,7 +5,13 @@
 --   names_at                                                 the number of names of what a link, root or register holds
 --   crowds                                                   whether a node would get a third name
 --   raised, lowered                                          the table with one name more, or one less
-use Rattle.std.specs.Prelude.{ℕ, ◌+◌, ◌-◌, Bool, true, false, cond, List, [], ◌∷◌, get_or, replicate, Some, None, Option, ◌==◌, nat_le, nat_lt, slice_index_or, slice_set}
+--   register_of, node_of                                     what a register holds, and the node that it holds, or why not
+--   change_left                                              whether a change is left, or why not
+--   node_free, name_free                                     whether a node may be changed, and a link or root hold another, or why not
+use Rattle.std.specs.Prelude.{ℕ, ◌+◌, ◌-◌, Bool, true, false, cond, List, [], ◌∷◌, get_or, replicate, Some, None, Ok, Err, Option, Result, ◌==◌, nat_le, nat_lt, slice_index_or, slice_set}
+use Rattle.std.specs.Option.{ok_or}
+use Rattle.refusals.specs.declared.kinds.MemoryRefusal.{MemoryRefusal}
+use Rattle.refusals.specs.declared.kinds.MemoryRefusal.TheVariants.{OutOfRange, NilRegister, ChangesSpent, ThirdName}
 use Rattle.single.specs.declared.node.Node.{Node as Row}
 
 abbrev pub below : ℕ → Option ℕ → Bool
@@ -54,3 +60,26 @@ raised rows (Some k) = slice_set rows k (row_named ((get_or rows k blank).names 
 abbrev pub lowered : List Row → Option ℕ → List Row
 lowered rows None = rows
 lowered rows (Some k) = slice_set rows k (row_named ((get_or rows k blank).names - 1) (slice_index_or rows k blank))
+
+-- what a register holds; refused with 21 where there is no such register
+abbrev pub register_of : List (Option ℕ) → ℕ → Result (Option ℕ) MemoryRefusal
+register_of regs reg = cond (nat_lt reg 40) (Ok (slice_index_or regs reg None)) (Err OutOfRange)
+
+-- the node that a register holds; refused with 22 where the register is nil
+abbrev pub node_of : List (Option ℕ) → ℕ → Result ℕ MemoryRefusal
+node_of regs reg = cond (nat_lt reg 40) (ok_or (slice_index_or regs reg None) NilRegister) (Err OutOfRange)
+
+-- whether so many changes leave one of a limit; refused with 24
+abbrev pub change_left : ℕ → ℕ → Result Unit MemoryRefusal
+change_left changed limit = cond (nat_lt changed limit) (Ok tt) (Err ChangesSpent)
+
+-- the node that is to be changed, where a change is left for it
+abbrev pub node_free : Result ℕ MemoryRefusal → Result Unit MemoryRefusal → Result ℕ MemoryRefusal
+node_free (Err e) left = Err e
+node_free (Ok k) (Err e) = Err e
+node_free (Ok k) (Ok _) = Ok k
+
+-- where a change is left, whether a link or root that holds `old` may hold `new`; refused with 26
+abbrev pub name_free : List Row → Option ℕ → Option ℕ → Result Unit MemoryRefusal → Result Unit MemoryRefusal
+name_free rows old new (Err e) = Err e
+name_free rows old new (Ok _) = cond (crowds rows old new) (Err ThirdName) (Ok tt)

@@ -3,7 +3,6 @@ ghost use Rattle.std.specs.Prelude.{◌≡◌, true};
 ghost use Rattle.single.specs.Single.{SingleMeans, SingleAlike};
 ghost use Rattle.std.proofs.Common.{rules};
 
-use crate::names::{crowded, lower, raise};
 use crate::node::Node;
 use crate::store::SingleMemory;
 use memory::pointer::PointerMemory;
@@ -21,6 +20,7 @@ impl PointerMemory for SingleMemory {
 
     ghost likeness = { Prim.search rules };
 
+    #[tactic(auto, unfolding(memory::specs::Steps::load_of))]
     fn load<O: VersionOrder>(
         &mut self,
         _order: &O,
@@ -34,6 +34,7 @@ impl PointerMemory for SingleMemory {
         Ok(())
     }
 
+    #[tactic(auto, unfolding(memory::specs::Steps::follow_of))]
     fn follow<O: VersionOrder>(
         &mut self,
         _order: &O,
@@ -41,17 +42,15 @@ impl PointerMemory for SingleMemory {
         side: usize,
         reg: usize,
     ) -> Result<(), MemoryRefusal> {
-        if from >= 40 || side >= 2 || reg >= 40 {
+        if side >= 2 || reg >= 40 {
             return Err(MemoryRefusal::OutOfRange);
         }
-        let Some(k) = self.regs[from] else {
-            return Err(MemoryRefusal::NilRegister);
-        };
-        let row = self.rows[k as usize];
+        let row = self.row(from)?;
         self.regs[reg] = row.links[side];
         Ok(())
     }
 
+    #[tactic(auto, unfolding(memory::specs::Steps::move_of))]
     fn copy<O: VersionOrder>(
         &mut self,
         _order: &O,
@@ -66,55 +65,28 @@ impl PointerMemory for SingleMemory {
     }
 
     fn key<O: VersionOrder>(&self, _order: &O, reg: usize) -> Result<u32, MemoryRefusal> {
-        if reg >= 40 {
-            return Err(MemoryRefusal::OutOfRange);
-        }
-        match self.regs[reg] {
-            Some(k) => Ok(self.rows[k as usize].key),
-            None => Err(MemoryRefusal::NilRegister),
-        }
+        Ok(self.row(reg)?.key)
     }
 
     fn value<O: VersionOrder>(&self, _order: &O, reg: usize) -> Result<u64, MemoryRefusal> {
-        if reg >= 40 {
-            return Err(MemoryRefusal::OutOfRange);
-        }
-        match self.regs[reg] {
-            Some(k) => Ok(self.rows[k as usize].value),
-            None => Err(MemoryRefusal::NilRegister),
-        }
+        Ok(self.row(reg)?.value)
     }
 
     fn mark<O: VersionOrder>(&self, _order: &O, reg: usize) -> Result<u32, MemoryRefusal> {
-        if reg >= 40 {
-            return Err(MemoryRefusal::OutOfRange);
-        }
-        match self.regs[reg] {
-            Some(k) => Ok(self.rows[k as usize].mark),
-            None => Err(MemoryRefusal::NilRegister),
-        }
+        Ok(self.row(reg)?.mark)
     }
 
+    #[tactic(auto, unfolding(memory::specs::Steps::nil_of))]
     fn is_nil<O: VersionOrder>(&self, _order: &O, reg: usize) -> Result<bool, MemoryRefusal> {
-        if reg >= 40 {
-            return Err(MemoryRefusal::OutOfRange);
-        }
-        Ok(self.regs[reg].is_none())
+        Ok(self.register(reg)?.is_none())
     }
 
+    #[tactic(auto, unfolding(memory::specs::Steps::same_of))]
     fn same<O: VersionOrder>(&self, _order: &O, a: usize, b: usize) -> Result<bool, MemoryRefusal> {
-        if a >= 40 || b >= 40 {
-            return Err(MemoryRefusal::OutOfRange);
-        }
-        match self.regs[a] {
-            None => Ok(self.regs[b].is_none()),
-            Some(i) => match self.regs[b] {
-                None => Ok(false),
-                Some(j) => Ok(i == j),
-            },
-        }
+        Ok(self.register(a)? == self.register(b)?)
     }
 
+    #[tactic(auto, unfolding(memory::specs::Steps::make_of))]
     fn make<O: VersionOrder>(
         &mut self,
         _order: &O,
@@ -136,6 +108,7 @@ impl PointerMemory for SingleMemory {
         Ok(())
     }
 
+    #[tactic(auto, unfolding(memory::specs::Steps::save_of))]
     fn save<O: VersionOrder>(
         &mut self,
         _order: &O,
@@ -145,21 +118,13 @@ impl PointerMemory for SingleMemory {
         if root >= 3 || reg >= 40 {
             return Err(MemoryRefusal::OutOfRange);
         }
-        if self.changed >= self.change_limit {
-            return Err(MemoryRefusal::ChangesSpent);
-        }
-        let held = self.roots[root];
         let to = self.regs[reg];
-        if crowded(&self.rows, held, to) {
-            return Err(MemoryRefusal::ThirdName);
-        }
+        self.rename(self.roots[root], to)?;
         self.roots[root] = to;
-        raise(&mut self.rows, to);
-        lower(&mut self.rows, held);
-        self.changed += 1;
         Ok(())
     }
 
+    #[tactic(auto, unfolding(memory::specs::Steps::link_of))]
     fn link<O: VersionOrder>(
         &mut self,
         _order: &O,
@@ -167,26 +132,14 @@ impl PointerMemory for SingleMemory {
         side: usize,
         reg: usize,
     ) -> Result<(), MemoryRefusal> {
-        if from >= 40 || side >= 2 || reg >= 40 {
+        if side >= 2 || reg >= 40 {
             return Err(MemoryRefusal::OutOfRange);
         }
-        let Some(k) = self.regs[from] else {
-            return Err(MemoryRefusal::NilRegister);
-        };
-        if self.changed >= self.change_limit {
-            return Err(MemoryRefusal::ChangesSpent);
-        }
-        let mut row = self.rows[k as usize];
-        let old = row.links[side];
+        let k = self.node(from)?;
+        let old = self.rows[k as usize].links[side];
         let to = self.regs[reg];
-        if crowded(&self.rows, old, to) {
-            return Err(MemoryRefusal::ThirdName);
-        }
-        row.links[side] = to;
-        self.rows[k as usize] = row;
-        raise(&mut self.rows, to);
-        lower(&mut self.rows, old);
-        self.changed += 1;
+        self.rename(old, to)?;
+        self.rows[k as usize].links[side] = to;
         Ok(())
     }
 
@@ -196,17 +149,8 @@ impl PointerMemory for SingleMemory {
         reg: usize,
         value: u64,
     ) -> Result<(), MemoryRefusal> {
-        if reg >= 40 {
-            return Err(MemoryRefusal::OutOfRange);
-        }
-        let Some(k) = self.regs[reg] else {
-            return Err(MemoryRefusal::NilRegister);
-        };
-        if self.changed >= self.change_limit {
-            return Err(MemoryRefusal::ChangesSpent);
-        }
+        let k = self.changing(reg)?;
         self.rows[k as usize].value = value;
-        self.changed += 1;
         Ok(())
     }
 
@@ -216,17 +160,8 @@ impl PointerMemory for SingleMemory {
         reg: usize,
         mark: u32,
     ) -> Result<(), MemoryRefusal> {
-        if reg >= 40 {
-            return Err(MemoryRefusal::OutOfRange);
-        }
-        let Some(k) = self.regs[reg] else {
-            return Err(MemoryRefusal::NilRegister);
-        };
-        if self.changed >= self.change_limit {
-            return Err(MemoryRefusal::ChangesSpent);
-        }
+        let k = self.changing(reg)?;
         self.rows[k as usize].mark = mark;
-        self.changed += 1;
         Ok(())
     }
 

@@ -2,7 +2,9 @@
 #![tactic(auto)]
 
 pub mod calls;
+mod changes;
 pub mod make;
 mod names;
 pub mod node;
+mod reading;
 pub mod store;

@@ -15,7 +15,7 @@ impl SingleMemory {
     ) -> Result<Self, (MakerRefusal, Vec<Node>)>
         ensures { MadeIs nodes changes table result (make_refusal nodes changes (vec_len table)) }
     {
-        if nodes < 1 || nodes > 4096 || changes < 160 || changes > 16384 {
+        if !(1..=4096).contains(&nodes) || !(160..=16384).contains(&changes) {
             return Err((MakerRefusal::LimitOutOfRange, table));
         }
         if table.len() < nodes as usize {

@@ -2,6 +2,7 @@
 ghost use Rattle.std.specs.Prelude.{◌≡◌};
 ghost use Rattle.single.specs.Rows.{new_row};
 
+// A link is the number of a row, and no box: the rows are given at making, and no call takes memory.
 #[derive(Clone, Copy)]
 pub struct Node {
     pub(crate) key: u32,

@@ -6,7 +6,7 @@ ghost use Rattle.single.specs.Rows.{all_below};
 use crate::node::Node;
 
 // Roots and registers, the table of nodes by serial numbers, the counts and the limits. Every root, register and link names a node
-// that was made, and no node has more than two names.
+// that was made, and no node has more than two names. The rows are given whole at making, so their number made stands beside them.
 #[derive(Drop)]
 pub struct SingleMemory {
     pub(crate) roots: [Option<u32>; 3],

@@ -1,7 +1,10 @@
 -- The example's row of calls on a fresh memory, computed.
-use Rattle.std.proofs.Common.{◌≡◌, ℕ, Bool, true, false, cond, leb, Some, None, Ok, Err, Result, refl, ap, ◌∙◌, arith}
+use Rattle.std.proofs.Common.{◌≡◌, ℕ, Bool, true, false, cond, leb, Some, None, Ok, Err, Result, refl, ap, ◌∙◌, subst}
 use Rattle.refusals.specs.declared.kinds.MakerRefusal.TheVariants.{TableTooShort}
 use Rattle.refusals.specs.declared.kinds.MemoryRefusal.{MemoryRefusal}
+use Rattle.refusals.specs.declared.kinds.MakerRefusal.{MakerRefusal}
+use Rattle.std.specs.Result.{result_ok}
+use Rattle.memory.proofs.Numbers.{some_same, none_some}
 use Rattle.memory.specs.Memory.{Memory, fresh_single}
 use Rattle.memory.specs.Steps.{load_of, follow_of, number_of, make_of, save_of, link_of}
 use Rattle.memory.specs.Promises.{Comes}
@@ -25,11 +28,10 @@ made_by table s true h = (refl, h)
 made_by table s false h = absurd h
 
 -- a memory that was made in a table of so many rows
-pub made_two : {T : Type 0} (table : T) (s : SingleMemory) (rows : ℕ) → MadeIs 2 160 table (Ok s) (make_refusal 2 160 rows) → (leb 2 rows ≡ true) × SingleMeans s (fresh_single 2 160)
+made_two : {T : Type 0} (table : T) (s : SingleMemory) (rows : ℕ) → MadeIs 2 160 table (Ok s) (make_refusal 2 160 rows) → (leb 2 rows ≡ true) × SingleMeans s (fresh_single 2 160)
 made_two table s rows h = made_by table s (leb 2 rows) h
 
-pub not_refused : {e : MemoryRefusal} {r : Result (ℕ × ℕ) MemoryRefusal} → r ≡ Ok (9, 7) → r ≡ Err e → ⊥
-not_refused p q = let z : ◌≡◌ {A = ℕ} 0 1 = cc in omega arith
-
-pub same_values : {v : ℕ × ℕ} {r : Result (ℕ × ℕ) MemoryRefusal} → r ≡ Ok (9, 7) → r ≡ Ok v → v ≡ (9, 7)
-same_values p q = cc
+-- the same of a memory that was asked for by `ok`
+pub made_ok : {T : Type 0} (table : T) (r : Result SingleMemory (MakerRefusal × T)) (s : SingleMemory) (rows : ℕ) → MadeIs 2 160 table r (make_refusal 2 160 rows) → result_ok r ≡ Some s → (leb 2 rows ≡ true) × SingleMeans s (fresh_single 2 160)
+made_ok table (Ok q) s rows h e = let m = made_two table q rows h in (m.0, subst (λ (t : SingleMemory). SingleMeans t (fresh_single 2 160)) (some_same e) m.1)
+made_ok table (Err p) s rows h e = absurd (none_some e)

@@ -1,7 +1,7 @@
 -- Which copies a split has to visit, and how: only the partners of the split copy, those that name it from x on; and it is enough
 -- to let them name the new copy in place of the old, since nothing names the new one yet.
 --
---   names_one, redirect                         a value names a copy; a value that names one copy in place of another
+--   names_one, redirect                         a value names a copy; a value that names one copy in place of another (in fields)
 --   redirects, redirect_maps, redirected_copy   entries and a copy in which, from a version on, one copy is named in place of another
 --   ValuesOf                                    something holds of the values of a field among entries
 --   SplitRedirects                              a split renames every copy by redirecting it
@@ -10,24 +10,10 @@
 --   PartnersFound                               a copy that names the split one is named by it, at x or by an entry behind x
 use Rattle.std.specs.Prelude.{◌≡◌, ℕ, ◌<◌, ◌≤◌, Bool, false, cond, List, [], ◌∷◌, ◌==◌, ◌≢◌, nat_le}
 use Rattle.fields.specs.declared.kinds.Value.{Value}
-use Rattle.fields.specs.declared.kinds.Value.TheVariants.{Number, Nil, To, From}
+pub use Rattle.fields.specs.Fields.{names_one, redirect}
 use Rattle.entries.specs.Entries.{Entry, entries_behind, mapped, renamed}
 use Rattle.slices.specs.Copies.{Copy, Copies, value_at, Serves, CopyOk, Sound}
 use Rattle.slices.specs.Splits.{times, naming, names, renamed_copy, split}
-
--- the value names the copy c
-abbrev pub names_one : ℕ → Value → Bool
-names_one c (Number n) = false
-names_one c Nil = false
-names_one c (To k) = k == c
-names_one c (From k l) = k == c
-
--- a value that names c names d in its place
-abbrev pub redirect : ℕ → ℕ → Value → Value
-redirect c d (Number n) = Number n
-redirect c d Nil = Nil
-redirect c d (To k) = To (cond (k == c) d k)
-redirect c d (From k l) = From (cond (k == c) d k) l
 
 -- the fields of fs, one after the other: from the version x on d is named in place of c
 abbrev pub redirects : (ℕ → ℕ) → ℕ → ℕ → List ℕ → ℕ → (ℕ → Value) → List (Entry Value) → List (Entry Value)

@@ -1,10 +1,10 @@
 -- Reading digits from left to right: what is left at the place i, behind the number so far, decides as the whole text does.
-use Rattle.std.proofs.Common.{◌≡◌, ℕ, ◌+◌, ◌-◌, ◌*◌, ◌^◌, ◌<◌, ◌≤◌, Bool, true, false, cond, ◌&&◌, ltb, List, [], ◌∷◌, length, get_or, drop, Some, None, sym, refl, ap, ◌∙◌, arith}
+use Rattle.std.proofs.Common.{◌≡◌, ℕ, ◌+◌, ◌-◌, ◌*◌, ◌^◌, ◌<◌, ◌≤◌, Bool, true, false, cond, ◌&&◌, ltb, List, [], ◌∷◌, length, get_or, drop, Some, None, sym, ap, ◌∙◌, arith}
 use Rattle.std.specs.Str.{all_ascii_digits}
 use Rattle.std.specs.Char.{is_ascii_digit}
-use Rattle.std.proofs.lemmas.List.{drop_more, drop_all}
-use Rattle.std.proofs.lemmas.Bool.{lt-ltb, le-ltb, and_left, and_right, and_from}
-use Rattle.text.specs.Numbers.{worth, well_begun, numeral, number_of}
+use Rattle.std.proofs.lemmas.List.{drop_more}
+use Rattle.std.proofs.lemmas.Bool.{le-ltb, and_right}
+use Rattle.text.specs.Numbers.{worth, numeral, number_of}
 
 -- further digits do not lower a number
 pub worth_grows : (n : ℕ) (cs : List ℕ) → n ≤ worth n cs
@@ -15,9 +15,6 @@ worth_grows n (c ∷ cs) = omega (arith, worth_grows (n * 10 + (c - 48)) cs)
 pub record Reading (bs : List ℕ) (i n : ℕ) : Type 0 where
   pub number : worth n (drop i bs) ≡ worth 0 bs
   pub digits : all_ascii_digits (drop i bs) ≡ all_ascii_digits bs
-
-pub reading_start : (bs : List ℕ) → Reading bs 0 0
-reading_start bs = record { number = refl; digits = refl }
 
 -- one digit more
 pub reading_more : (bs : List ℕ) (i n : ℕ) → Reading bs i n → i < length bs → is_ascii_digit (get_or bs i 0) ≡ true → Reading bs (i + 1) (n * 10 + (get_or bs i 0 - 48))
@@ -30,16 +27,6 @@ reading_more bs i n h lt d = record {
 no_number : (k : ℕ) (bs : List ℕ) → (numeral bs && ltb (worth 0 bs) (2 ^ k)) ≡ false → None ≡ number_of k bs
 no_number k bs h = ap (λ (b : Bool). cond b (Some (worth 0 bs)) None) (sym h)
 
--- the text is empty or has a zero in front
-pub reading_never : (bs : List ℕ) (k : ℕ) → well_begun bs ≡ false → None ≡ number_of k bs
-reading_never bs k h = no_number k bs (and_left (numeral bs) (ltb (worth 0 bs) (2 ^ k)) (and_left (well_begun bs) (all_ascii_digits bs) h))
-
--- a byte that is no digit: the text is no number
-pub reading_stops : (bs : List ℕ) (i n k : ℕ) → Reading bs i n → i < length bs → is_ascii_digit (get_or bs i 0) ≡ false → None ≡ number_of k bs
-reading_stops bs i n k h lt d =
-    let none : all_ascii_digits bs ≡ false = sym h.digits ∙ ap all_ascii_digits (drop_more bs i 0 lt) ∙ and_left _ _ d in
-    no_number k bs (and_left (numeral bs) (ltb (worth 0 bs) (2 ^ k)) (and_right (well_begun bs) (all_ascii_digits bs) none))
-
 -- a number that is too large already: the whole one is too
 pub reading_over : (bs : List ℕ) (i n k : ℕ) → Reading bs i n → 2 ^ k ≤ n → None ≡ number_of k bs
 reading_over bs i n k h over =
@@ -49,11 +36,3 @@ reading_over bs i n k h over =
 -- a number that is too large with the next digit
 pub reading_grows_over : (bs : List ℕ) (i n k : ℕ) → Reading bs i n → i < length bs → is_ascii_digit (get_or bs i 0) ≡ true → 2 ^ k ≤ n * 10 + (get_or bs i 0 - 48) → None ≡ number_of k bs
 reading_grows_over bs i n k h lt d over = reading_over bs (i + 1) (n * 10 + (get_or bs i 0 - 48)) k (reading_more bs i n h lt d) over
-
--- all digits are read
-pub reading_ends : (bs : List ℕ) (i n k : ℕ) → Reading bs i n → i ≡ length bs → well_begun bs ≡ true → n < 2 ^ k → Some n ≡ number_of k bs
-reading_ends bs i n k h e front fits =
-    let all : all_ascii_digits bs ≡ true = sym h.digits ∙ ap all_ascii_digits (drop_all i bs (omega arith)) in
-    let is : worth 0 bs ≡ n = sym h.number ∙ ap (worth n) (drop_all i bs (omega arith)) in
-    let small : ltb (worth 0 bs) (2 ^ k) ≡ true = lt-ltb _ _ (omega arith) in
-    ap Some (sym is) ∙ ap (λ (b : Bool). cond b (Some (worth 0 bs)) None) (sym (and_from (numeral bs) _ (and_from (well_begun bs) (all_ascii_digits bs) front all) small))

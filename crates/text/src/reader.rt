@@ -1,12 +1,12 @@
 // Reading a text part by part, as a line word by word.
-ghost use Rattle.std.specs.Prelude.{◌≡◌};
+ghost use Rattle.std.specs.Prelude.{◌≡◌, ⊤};
 ghost use Rattle.std.specs.Option.{option_map};
-ghost use Rattle.text.specs.Numbers.{number_of, integer_of};
+ghost use Rattle.std.specs.Iterator.{YieldsFirstRef, item_count, MakesProgress};
 ghost use Rattle.text.specs.Parts.{parts, words};
 ghost use Rattle.text.specs.Left.{left, first_of, behind_first, read_first, is_none, word_is};
 
-use crate::cutting::{cut, same};
-use crate::numbers::{read_i32, read_u32, read_u64};
+use crate::cutting::cut;
+use crate::numbers::Number;
 use crate::split::Parts;
 
 impl<'a> Parts<'a> {
@@ -34,50 +34,40 @@ impl<'a> Parts<'a> {
         self.rest.is_none()
     }
 
-    // The next part.
-    pub fn part(&mut self) -> Option<&'a [u8]>
-        ensures part { option_map (λ x. x.now) result ≡ first_of (left self.old) }
-        ensures rest { left self.new ≡ behind_first (left self.old) }
-    {
-        let text = self.rest?;
-        let (part, rest) = cut(text, self.separator);
-        self.rest = rest;
-        Some(part)
-    }
-
     // The next part, where it is this text.
     pub fn keyword(&mut self, text: &[u8]) -> Option<()>
         ensures found { result ≡ read_first (word_is text.now) (left self.old) }
         ensures rest { left self.new ≡ behind_first (left self.old) }
     {
-        if same(self.part()?, text) {
-            Some(())
-        } else {
-            None
-        }
+        (self.next()? == text).then_some(())
     }
 
-    // The next part, as a 32-bit number.
-    pub fn u32(&mut self) -> Option<u32>
-        ensures number { result ≡ read_first (number_of 32) (left self.old) }
+    // The next part, as a number of the kind.
+    pub fn number<N: Number>(&mut self) -> Option<N>
+        ensures number { result ≡ read_first N.written (left self.old) }
         ensures rest { left self.new ≡ behind_first (left self.old) }
     {
-        read_u32(self.part()?)
+        N::read(self.next()?)
     }
+}
 
-    // The next part, as a 64-bit number.
-    pub fn u64(&mut self) -> Option<u64>
-        ensures number { result ≡ read_first (number_of 64) (left self.old) }
-        ensures rest { left self.new ≡ behind_first (left self.old) }
-    {
-        read_u64(self.part()?)
-    }
+impl<'a> Iterator for Parts<'a> {
+    type Item = &'a [u8];
 
-    // The next part, as a signed 32-bit number.
-    pub fn i32(&mut self) -> Option<i32>
-        ensures number { result ≡ read_first integer_of (left self.old) }
+    ghost next_gives = { YieldsFirstRef left };
+
+    ghost remaining = { item_count left };
+
+    // The next part.
+    fn next(&mut self) -> Option<&'a [u8]>
+        ensures part { option_map (λ x. x.now) result ≡ first_of (left self.old) }
         ensures rest { left self.new ≡ behind_first (left self.old) }
+        ensures steps { YieldsFirstRef left self.old result self.new }
+        ensures goes { MakesProgress (λ _. ⊤) (item_count left) self.old result self.new }
     {
-        read_i32(self.part()?)
+        let text = self.rest?;
+        let (part, rest) = cut(text, self.separator);
+        self.rest = rest;
+        Some(part)
     }
 }

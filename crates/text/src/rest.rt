@@ -4,6 +4,7 @@ ghost use Rattle.std.specs.Option.{option_map};
 ghost use Rattle.text.specs.Left.{left};
 ghost use Rattle.text.specs.Numbers.{numbers_of};
 
+use crate::numbers::Number;
 use crate::split::Parts;
 use std::alloc::{AllocError, Global};
 
@@ -12,10 +13,9 @@ impl<'a> Parts<'a> {
     pub fn numbers(self, heap: Global) -> Result<Option<Vec<u64>>, AllocError>
         ensures { IfOk result (λ o. option_map vec_items o ≡ numbers_of (left self.entry)) }
     {
-        let mut words = self;
         let mut numbers = Vec::new(heap);
-        while !words.is_done() {
-            let Some(number) = words.u64() else {
+        for part in self {
+            let Some(number) = u64::read(part) else {
                 return Ok(None);
             };
             numbers.push(number)?;

@@ -15,24 +15,25 @@ use Rattle.order.specs.Items.{known}
 use Rattle.labels.specs.Labels.{Entries, label_of, fresh}
 use Rattle.relabelled.specs.Meaning.{relabelled_items, relabelled_entries}
 use Rattle.grouping.specs.Blocks.{flat, Grouped}
-use Rattle.grouping.specs.Groups.{listed, blocked, group_at, rank_at}
+use Rattle.grouping.specs.Groups.{blocked, group_at, rank_at}
+use Rattle.linked_lists.specs.Chain.{listed}
 use Rattle.two_level.specs.declared.list.TwoLevelList.{TwoLevelList}
 
 -- the items, first to last
 abbrev pub two_level_items : TwoLevelList → List ℕ
-two_level_items o = listed (vec_items o.rows) o.count
+two_level_items o = listed (vec_items o.table.rows) o.table.count
 
 -- the number of a's group
 abbrev pub group_of : TwoLevelList → ℕ → ℕ
-group_of o a = group_at (vec_items o.rows) a
+group_of o a = group_at (vec_items o.table.rows) a
 
 -- the rank of a in its group
 abbrev pub rank_of : TwoLevelList → ℕ → ℕ
-rank_of o a = rank_at (vec_items o.rows) a
+rank_of o a = rank_at (vec_items o.table.rows) a
 
 -- the items, group by group, the groups in their order
 abbrev pub two_level_blocks : TwoLevelList → List (List ℕ)
-two_level_blocks o = blocked (vec_items o.rows) (relabelled_items o.groups) o.count
+two_level_blocks o = blocked (vec_items o.table.rows) (relabelled_items o.groups) o.table.count
 
 -- the groups, first to last, each with its label
 abbrev pub group_entries : TwoLevelList → Entries
@@ -44,7 +45,7 @@ Kept o = (flat (two_level_blocks o) ≡ two_level_items o) × Grouped (group_of 
 
 -- the list holds item 0 alone, in group 0, whose label is 0, and has the limit
 abbrev pub Started : TwoLevelList → ℕ → Type 0
-Started o limit = (two_level_items o ≡ 0 ∷ []) × (two_level_blocks o ≡ (0 ∷ []) ∷ []) × (group_entries o ≡ fresh) × (o.limit ≡ limit) × Kept o
+Started o limit = (two_level_items o ≡ 0 ∷ []) × (two_level_blocks o ≡ (0 ∷ []) ∷ []) × (group_entries o ≡ fresh) × (o.table.limit ≡ limit) × Kept o
 
 -- the label of a's group; 31 where a is unknown
 abbrev pub group_label_answer : TwoLevelList → ℕ → Result ℕ OrderRefusal

@@ -8,72 +8,55 @@ ghost use Rattle.two_level.specs.Held.{order_distinct, order_limit, order_number
 
 use crate::divide::group_behind;
 use crate::list::TwoLevelList;
-use crate::runs::{first_of, link, regroup, size_of};
-use grouping::item::Item;
+use crate::runs::regroup;
+use grouping::item::{Item, Seat};
 use labels::Labelled;
+use linked_lists::refusing::check_table;
 use linked_lists::row::Row;
+use linked_lists::table::Table;
 use order::VersionOrder;
 use refusals::kinds::{MakerRefusal, OrderRefusal};
 use relabelled::list::RelabelledList;
-use relabelled::refusing::after_refusal;
 
 impl TwoLevelList {
     // A list of item 0 alone, in group 0, whose label is 0. A refusal hands both tables back as they were.
     pub fn make(
         limit: u32,
         rows: Vec<Item>,
-        groups: Vec<Row>,
-    ) -> Result<Self, (MakerRefusal, Vec<Item>, Vec<Row>)>
+        groups: Vec<Row<u32>>,
+    ) -> Result<Self, (MakerRefusal, Vec<Item>, Vec<Row<u32>>)>
         ensures { MatchResult result (λ o. (maker_refusal limit (nat_lt (vec_len rows) limit || nat_lt (vec_len groups) limit) ≡ None) × Started o limit) (λ e. (maker_refusal limit (nat_lt (vec_len rows) limit || nat_lt (vec_len groups) limit) ≡ Some e.0) × (e.1 ≡ rows) × (e.2 ≡ groups)) }
     {
-        if limit < 1 || limit > 4096 {
-            return Err((MakerRefusal::LimitOutOfRange, rows, groups));
-        }
-        if rows.len() < limit as usize {
-            return Err((MakerRefusal::TableTooShort, rows, groups));
+        if let Err(refusal) = check_table(limit, rows.len()) {
+            return Err((refusal, rows, groups));
         }
         match RelabelledList::make(limit, groups) {
+            Ok(groups) => Ok(TwoLevelList {
+                table: Table::fresh(limit, rows, Seat { group: 0, rank: 0 }),
+                groups,
+            }),
             Err((refusal, groups)) => Err((refusal, rows, groups)),
-            Ok(groups) => {
-                let mut rows = rows;
-                rows[0] = Item {
-                    group: 0,
-                    rank: 0,
-                    next: None,
-                    prev: None,
-                };
-                Ok(TwoLevelList {
-                    rows,
-                    groups,
-                    count: 1,
-                    limit,
-                })
-            }
         }
     }
 
     // Puts a new item right behind a, in its group, and answers its number, which is the count of items before the call.
-    // A group that would reach 33 keeps its first 16; the other 17 go to a new group right behind.
+    // A group that would reach 33 keeps its first 16; the other 17 go to a new group right behind: the order's own `after` has no word for groups.
     pub fn after(&mut self, a: u32) -> Result<u32, OrderRefusal>
-        ensures answer { result ≡ after_answer (two_level_items self.old) self.old.limit a }
+        ensures answer { result ≡ after_answer (two_level_items self.old) self.old.table.limit a }
         ensures items { two_level_items self.new ≡ items_after result (two_level_items self.old) a }
         ensures blocks { two_level_blocks self.new ≡ blocks_after result (two_level_blocks self.old) a }
         ensures labels { group_entries self.new ≡ group_entries_after result (group_entries self.old) (two_level_blocks self.old) a (group_of self.old a) }
         ensures kept { Kept self.new }
-        ensures limit { self.new.limit ≡ self.old.limit }
+        ensures limit { self.new.table.limit ≡ self.old.table.limit }
         ensures refused { OnErr result (self.new ≡ self.old) }
     {
-        let n = self.count;
-        if let Some(refusal) = after_refusal(n, self.limit, a) {
-            return Err(refusal);
-        }
-        let group = self.rows[a as usize].group;
-        let first = first_of(&self.rows, n, a);
-        let size = size_of(&self.rows, n, first, group);
-        let fresh = group_behind(&mut self.groups, size, group)?;
-        link(&mut self.rows, a, n);
-        regroup(&mut self.rows, first, size + 1, fresh);
-        self.count = n + 1;
+        self.table.check_after(a)?;
+        let seat = self.table.at(a).tag;
+        let first = self.first_of(a);
+        let size = self.size_of(first, seat.group);
+        let fresh = group_behind(&mut self.groups, size, seat.group)?;
+        let n = self.table.link(a, seat);
+        regroup(&mut self.table, first, size + 1, fresh);
         Ok(n)
     }
 }
@@ -81,7 +64,7 @@ impl TwoLevelList {
 impl VersionOrder for TwoLevelList {
     ghost items = { λ o. two_level_items o };
 
-    ghost limit = { λ o. o.limit };
+    ghost limit = { λ o. o.table.limit };
 
     ghost once = { λ o. order_distinct o };
 
@@ -90,15 +73,12 @@ impl VersionOrder for TwoLevelList {
     ghost numbered = { λ o a. order_numbered o a };
 
     fn count(&self) -> u32 {
-        self.count
+        self.table.count()
     }
 
     fn before(&self, a: u32, b: u32) -> Result<bool, OrderRefusal> {
-        if a >= self.count || b >= self.count {
-            return Err(OrderRefusal::UnknownItem);
-        }
-        let x = self.rows[a as usize];
-        let y = self.rows[b as usize];
+        let x = self.table.row(a)?.tag;
+        let y = self.table.row(b)?.tag;
         if x.group == y.group {
             return Ok(x.rank < y.rank);
         }
@@ -106,10 +86,7 @@ impl VersionOrder for TwoLevelList {
     }
 
     fn successor(&self, a: u32) -> Result<Option<u32>, OrderRefusal> {
-        if a >= self.count {
-            return Err(OrderRefusal::UnknownItem);
-        }
-        Ok(self.rows[a as usize].next)
+        self.table.successor(a)
     }
 
     fn after(&mut self, a: u32) -> Result<u32, OrderRefusal> {
@@ -122,9 +99,6 @@ impl Labelled for TwoLevelList {
     ghost labels = { λ o a. group_label_answer o a };
 
     fn label(&self, a: u32) -> Result<u32, OrderRefusal> {
-        if a >= self.count {
-            return Err(OrderRefusal::UnknownItem);
-        }
-        self.groups.label(self.rows[a as usize].group)
+        self.groups.label(self.table.row(a)?.tag.group)
     }
 }

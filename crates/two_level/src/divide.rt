@@ -13,10 +13,10 @@ pub(crate) fn group_behind(
     size: u32,
     group: u32,
 ) -> Result<u32, OrderRefusal>
-    ensures answer { result ≡ (if nat_lt size 32 then Ok group else after_answer (relabelled_items groups.old) groups.old.limit group) }
+    ensures answer { result ≡ (if nat_lt size 32 then Ok group else after_answer (relabelled_items groups.old) groups.old.table.limit group) }
     ensures items { relabelled_items groups.new ≡ (if nat_lt size 32 then relabelled_items groups.old else items_after result (relabelled_items groups.old) group) }
     ensures labels { relabelled_entries groups.new ≡ (if nat_lt size 32 then relabelled_entries groups.old else entries_after result (relabelled_entries groups.old) group) }
-    ensures limit { groups.new.limit ≡ groups.old.limit }
+    ensures limit { groups.new.table.limit ≡ groups.old.table.limit }
 {
     if size < 32 {
         return Ok(group);

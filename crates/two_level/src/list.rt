@@ -1,15 +1,14 @@
-// The two-level list: the table of its items, its groups, how many items it holds, and how many it may hold.
+// The two-level list: a table of items that carry their seats, and the groups that they lie in.
 ghost use Rattle.relabelled.specs.Meaning.{relabelled_items};
 ghost use Rattle.grouping.specs.Groups.{Sound};
 
-use grouping::item::Item;
+use grouping::item::Seat;
+use linked_lists::table::Table;
 use relabelled::list::RelabelledList;
 
 #[derive(Drop)]
 pub struct TwoLevelList {
-    pub(crate) rows: Vec<Item>,
+    pub(crate) table: Table<Seat>,
     pub(crate) groups: RelabelledList,
-    pub(crate) count: u32,
-    pub(crate) limit: u32,
-    ghost sound: { ∥ Sound rows.items (relabelled_items groups) groups.limit count limit ∥₁ },
+    ghost sound: { ∥ Sound table.rows.items (relabelled_items groups) groups.table.limit table.count table.limit ∥₁ },
 }

@@ -1,7 +1,8 @@
-use Rattle.std.proofs.Common.{sym, ◌∙◌}
-use Rattle.std.proofs.lemmas.Bool.{lt-ltb, cond-true}
-use Rattle.labels.proofs.Capacities.{rule}
+use Rattle.std.proofs.Common.{ap, ◌∙◌}
+use Rattle.std.specs.Option.{unwrap_or}
+use Rattle.labels.proofs.Capacities.{room_is}
 use Rattle.labels.proofs.room.Goals as goal
 
-pub returns-then-i-lt32 : goal.returns-then-i-lt32
-returns-then-i-lt32 c = rule c.args.i c.if-i-lt32.true ∙ sym (cond-true _ _ _ (lt-ltb c.args.i 32 c.if-i-lt32.true))
+pub returns : goal.returns
+returns c =
+    c.unwrap_or.ensures ∙ (ap (λ o. unwrap_or o 0) c.copied.ensures ∙ room_is c.args.i c.get.result c.get.ensures.lookup.0 c.get.ensures.lookup.1)

@@ -1,31 +1,44 @@
-use Rattle.std.proofs.Common.{suc, ◌-◌, sym, refl, ◌∙◌, arith}
+use Rattle.std.proofs.Common.{◌+◌, sym, ◌∙◌, arith, rules}
+use Rattle.memory.specs.Steps.{follow_of}
 use Rattle.memory.proofs.Rows.{step_ok, step_exit}
-use Rattle.tree_calls.proofs.Branches.{on_true, on_false}
+use Rattle.tree_calls.proofs.Chains.{on_false, side_at, via_call}
 use Rattle.books.specs.Books.{book_keys}
 use Rattle.places.specs.Places.{way_from}
-use Rattle.memory.specs.Steps.{follow_of}
-use Rattle.map_steps.specs.Find.{find_of}
-use Rattle.map_insert.proofs.Insertions.{next, via_call, via_run}
-use Rattle.map.proofs.Lookups.{at_key, at_side, find_level_lem, find_out}
+use Rattle.map.proofs.Lookups.{at_side, find_level_lem}
 use Rattle.map.proofs.+find.Goals as goal
 
-pub returns-then-d-ge25 : goal.returns-then-d-ge25
-returns-then-d-ge25 g t c m h = find_out (way_from g.K.Key.first (book_keys c.args.book.now) c.args.key) c.args.d m (omega arith)
-
 pub returns-in_err-is_nil : goal.returns-in_err-is_nil
-returns-in_err-is_nil g t c m h = find_level_lem (way_from g.K.Key.first (book_keys c.args.book.now) c.args.key) c.args.d m (omega arith) (step_exit _ c.from_residual.ensures.1 (c.in_err-is_nil.ensures.does m h))
+returns-in_err-is_nil g t c = record {
+  runs = λ m h. find_level_lem (way_from g.K.Key.first (book_keys c.args.book.now) c.args.key) c.args.d m (omega arith) (search rules);
+  same = search rules;
+}
 
 pub returns-then-branch : goal.returns-then-branch
-returns-then-branch g t c m h = find_level_lem (way_from g.K.Key.first (book_keys c.args.book.now) c.args.key) c.args.d m (omega arith) (step_ok _ (c.in_ok-is_nil.ensures.does m h) (λ m1 p1. on_true _ _ _ c.if-branch.true (record { to = (refl, p1) })))
+returns-then-branch g t c = record {
+  runs = λ m h. find_level_lem (way_from g.K.Key.first (book_keys c.args.book.now) c.args.key) c.args.d m (omega arith) (search rules);
+  same = search rules;
+}
 
 pub returns-in_err-here : goal.returns-in_err-here
-returns-in_err-here g t c m h = find_level_lem (way_from g.K.Key.first (book_keys c.args.book.now) c.args.key) c.args.d m (omega arith) (step_ok _ (c.in_ok-is_nil.ensures.does m h) (λ m1 p1. on_false _ _ _ c.if-branch.false (step_exit _ c.from_residual-in_err-here.ensures.1 (c.in_err-here.ensures.does m1 p1))))
+returns-in_err-here g t c = record {
+  runs = λ m h. find_level_lem (way_from g.K.Key.first (book_keys c.args.book.now) c.args.key) c.args.d m (omega arith) (search rules);
+  same = search rules;
+}
 
 pub returns-in_default : goal.returns-in_default
-returns-in_default g t c m h = find_level_lem (way_from g.K.Key.first (book_keys c.args.book.now) c.args.key) c.args.d m (omega arith) (step_ok _ (c.in_ok-is_nil.ensures.does m h) (λ m1 p1. on_false _ _ _ c.if-branch.false (step_ok _ (c.in_ok-here.ensures.does m1 p1) (λ m2 p2. at_key _ _ _ (sym c.way.ensures ∙ c.in_default.is) (record { to = (refl, p2) })))))
+returns-in_default g t c = record {
+  runs = λ m h. find_level_lem (way_from g.K.Key.first (book_keys c.args.book.now) c.args.key) c.args.d m (omega arith) (search rules);
+  same = search rules;
+}
 
 pub returns-in_err-follow : goal.returns-in_err-follow
-returns-in_err-follow g t c m h = find_level_lem (way_from g.K.Key.first (book_keys c.args.book.now) c.args.key) c.args.d m (omega arith) (step_ok _ (c.in_ok-is_nil.ensures.does m h) (λ m1 p1. on_false _ _ _ c.if-branch.false (step_ok _ (c.in_ok-here.ensures.does m1 p1) (λ m2 p2. at_side _ _ _ (sym c.way.ensures ∙ c.in-Some.is) (step_exit _ c.from_residual-in_err-follow.ensures.1 (via_call (λ n. follow_of c.args.d n (suc c.args.d)) c.side_number-side.ensures (via_call (λ n. follow_of c.args.d c.side_number-side.result n) (next c.args.d) c.in_err-follow.ensures.does) m2 p2))))))
+returns-in_err-follow g t c = record {
+  runs = λ m h. find_level_lem (way_from g.K.Key.first (book_keys c.args.book.now) c.args.key) c.args.d m (omega arith) (step_ok _ (c.in_ok-is_nil.ensures.does m h) (λ m1 p1. on_false _ _ _ c.if-branch.false (step_ok _ (c.in_ok-here.ensures.does m1 p1) (λ m2 p2. at_side _ _ _ (sym c.way.ensures ∙ c.in-Some.is) (step_exit _ c.from_residual-in_err-follow.ensures.1 (via_call (λ n. follow_of c.args.d n (c.args.d + 1)) (c.from-side.ensures ∙ side_at _) c.in_err-follow.ensures.calls.does m2 p2))))));
+  same = search rules;
+}
 
 pub returns : goal.returns
-returns g t c m h = find_level_lem (way_from g.K.Key.first (book_keys c.args.book.now) c.args.key) c.args.d m (omega arith) (step_ok _ (c.in_ok-is_nil.ensures.does m h) (λ m1 p1. on_false _ _ _ c.if-branch.false (step_ok _ (c.in_ok-here.ensures.does m1 p1) (λ m2 p2. at_side _ _ _ (sym c.way.ensures ∙ c.in-Some.is) (step_ok _ (via_call (λ n. follow_of c.args.d n (suc c.args.d)) c.side_number-side.ensures (via_call (λ n. follow_of c.args.d c.side_number-side.result n) (next c.args.d) c.in_ok-follow.ensures.does) m2 p2) (λ m3 p3. via_run (λ n. find_of (way_from g.K.Key.first (book_keys c.args.book.now) c.args.key) (25 - n) n) (next c.args.d) c.find.ensures m3 p3))))))
+returns g t c = record {
+  runs = λ m h. find_level_lem (way_from g.K.Key.first (book_keys c.args.book.now) c.args.key) c.args.d m (omega arith) (step_ok _ (c.in_ok-is_nil.ensures.does m h) (λ m1 p1. on_false _ _ _ c.if-branch.false (step_ok _ (c.in_ok-here.ensures.does m1 p1) (λ m2 p2. at_side _ _ _ (sym c.way.ensures ∙ c.in-Some.is) (step_ok _ (via_call (λ n. follow_of c.args.d n (c.args.d + 1)) (c.from-side.ensures ∙ side_at _) c.in_ok-follow.ensures.calls.does m2 p2) (λ m3 p3. c.find.ensures.runs m3 p3))))));
+  same = search rules;
+}

@@ -1,40 +1,16 @@
-use Rattle.map_fixes.proofs.Ties.{runs_at}
+use Rattle.std.proofs.Common.{◌∙◌, rules}
+use Rattle.tree_calls.proofs.Chains.{colour_at, via_run}
 use Rattle.map_steps.specs.Remove.{spin_of}
 use Rattle.memory.proofs.Rows.{run_ok, run_exit}
 use Rattle.stored.specs.Writes.{renumber_of}
-use Rattle.std.proofs.Common.{refl}
 use Rattle.map_fixes.proofs.spin.Goals as goal
-
-pub returns-in_err-set_mark : goal.returns-in_err-set_mark
-unfolding spin_of
-returns-in_err-set_mark g c m h = run_exit _ c.from_residual.ensures.1 (c.in_err-set_mark.ensures m h)
-
-pub returns-in_err-set_mark-2 : goal.returns-in_err-set_mark-2
-unfolding spin_of
-returns-in_err-set_mark-2 g c m h =
-    run_ok _ (c.in_ok-set_mark.ensures m h) (λ m1 p1.
-    run_exit _ c.from_residual-in_err-set_mark-2.ensures.1 (c.in_err-set_mark-2.ensures m1 p1))
-
-pub returns-in_err-rotate : goal.returns-in_err-rotate
-unfolding spin_of
-returns-in_err-rotate g c m h =
-    run_ok _ (c.in_ok-set_mark.ensures m h) (λ m1 p1.
-    run_ok _ (c.in_ok-set_mark-2.ensures m1 p1) (λ m2 p2.
-    run_exit _ c.from_residual-in_err-rotate.ensures.1 (c.in_err-rotate.ensures m2 p2)))
 
 pub returns-in_err-set_mark-3 : goal.returns-in_err-set_mark-3
 unfolding spin_of
-returns-in_err-set_mark-3 g c m h =
-    run_ok _ (c.in_ok-set_mark.ensures m h) (λ m1 p1.
-    run_ok _ (c.in_ok-set_mark-2.ensures m1 p1) (λ m2 p2.
-    run_ok _ (c.in_ok-rotate.ensures m2 p2) (λ m3 p3.
-    run_exit _ c.from_residual-in_err-set_mark-3.ensures.1 (runs_at (λ k. renumber_of 1 c.args.d k) c.colour_mark.ensures c.in_err-set_mark-3.ensures m3 p3))))
-
-pub returns : goal.returns
-unfolding spin_of
-returns g c m h =
-    run_ok _ (c.in_ok-set_mark.ensures m h) (λ m1 p1.
-    run_ok _ (c.in_ok-set_mark-2.ensures m1 p1) (λ m2 p2.
-    run_ok _ (c.in_ok-rotate.ensures m2 p2) (λ m3 p3.
-    run_ok _ (runs_at (λ k. renumber_of 1 c.args.d k) c.colour_mark.ensures c.in_ok-set_mark-3.ensures m3 p3) (λ m4 p4.
-    record { to = (refl, p4) }))))
+returns-in_err-set_mark-3 g c = record {
+  runs = λ m h. run_ok _ (c.in_ok-set_mark.ensures.runs m h) (λ m1 p1.
+      run_ok _ (c.in_ok-set_mark-2.ensures.runs m1 p1) (λ m2 p2.
+      run_ok _ (c.in_ok-rotate.ensures.runs m2 p2) (λ m3 p3.
+      run_exit _ c.from_residual-in_err-set_mark-3.ensures.1 (via_run (λ k. renumber_of 1 c.args.d k) (c.from.ensures ∙ colour_at _) (c.in_err-set_mark-3.ensures.runs m3 p3)))));
+  same = search rules;
+}

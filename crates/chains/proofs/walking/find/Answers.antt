@@ -1,32 +1,27 @@
+use Rattle.std.proofs.Common.{rules, ◌-◌, ◌<◌, arith}
 use Rattle.chain_rows.proofs.Orders.{apart}
-use Rattle.std.proofs.Common.{◌<◌, length, vec_items, inl, inr, arith}
-use Rattle.chain_rows.proofs.Walks.{within_at, within_step}
-use Rattle.chain_rows.proofs.Finds.{found_before, found_same, passed_more}
+use Rattle.chain_rows.proofs.Walks.{within_step}
+use Rattle.chain_rows.proofs.Finds.{found_before, found_same, passed_last, passed_more}
 use Rattle.chains.proofs.walking.find.Goals as goal
+use Rattle.chains.proofs.walking.find.Goals.{else-row-v-via-then-row-v+else-eq, else-row-v-via-else-row-v}
 
-pub index-row-requires : goal.index-row-requires
-index-row-requires g c =
-    let h : c.loop-left.at < length (vec_items c.args.rows.now) =
-    within_at _ _ _ _ c.loop-left-test.true c.loop-left.invariant.within in
-    omega (arith, h, c.args.rows.now.ok.0)
+pub returns-then-earlier : goal.returns-then-earlier
+returns-then-earlier g c =
+    let some : 0 < c.args.from.len - c.loop-step._step = omega arith in
+    found_before _ _ _ _ _ _ _ _ _ _ c.loop-step.invariant.0 _ some
+    (c.if-earlier.ensures c.requires.known (within_step _ _ _ _ some _ c.loop-step.invariant.0.within).0) c.loop-step.prev c.loop-step.invariant.1
 
-pub before-requires : goal.before-requires
-before-requires g c =
-    (c.requires.1, (within_step _ _ _ _ c.index-row.result.now c.loop-left-test.true c.loop-left.invariant.within c.index-row.ensures).0)
+pub returns-then-eq : goal.returns-then-eq
+returns-then-eq g c = found_same _ _ _ _ _ _ _ _ _ _ c.loop-step.invariant.0 _ (omega arith) c.if-row-v.true (search rules)
 
-pub returns-then-before : goal.returns-then-before
-returns-then-before g c =
-    found_before _ _ _ _ _ _ _ _ _ _ _ c.loop-left.invariant c.index-row.result.now c.loop-left-test.true c.index-row.ensures c.if-before.ensures
-
-pub returns-then-row-field : goal.returns-then-row-field
-returns-then-row-field g c =
-    found_same _ _ _ _ _ _ _ _ _ _ _ c.loop-left.invariant c.index-row.result.now c.loop-left-test.true c.index-row.ensures c.if-row-v.true c.if-row-field.true
-
-pub loop-left-preserved : goal.loop-left-preserved
-loop-left-preserved g c =
-    passed_more _ _ _ _ _ _ _ _ _ _ _ c.loop-left.invariant c.index-row.result.now c.loop-left-test.true c.index-row.ensures c.if-before.ensures
-    (λ ep ef. elim c.else-row-v.either [
-      | inl h ↦ h.1 ef
-      | inr h ↦ h (apart (g.O.VersionOrder.items c.args.order.now) (g.met.O.VersionOrder.numbered c.args.order.now) c.index-row.result.now.version c.args.v
-          (within_step _ _ _ _ c.index-row.result.now c.loop-left-test.true c.loop-left.invariant.within c.index-row.ensures).0 c.requires.1 ep)
-    ])
+pub loop-step-preserved : goal.loop-step-preserved
+loop-step-preserved g c =
+    let some : 0 < c.args.from.len - c.loop-step._step = omega arith in (
+      passed_more _ _ _ _ _ _ _ _ _ _ c.loop-step.invariant.0 _ some (c.if-earlier.ensures c.requires.known (within_step _ _ _ _ some _ c.loop-step.invariant.0.within).0)
+          (λ ep ef. elim c.else-row-v.branch [
+            | else-row-v-via-then-row-v+else-eq w ↦ search rules
+            | else-row-v-via-else-row-v w ↦ w.if-row-v.false (apart (g.O.VersionOrder.items c.args.order.now) (g.met.O.VersionOrder.numbered c.args.order.now) _ c.args.v
+                (within_step _ _ _ _ some _ c.loop-step.invariant.0.within).0 c.requires.known ep)
+          ]),
+      passed_last _ _ _ _ _ _ _ _ _ _ c.loop-step.invariant.0,
+    )

@@ -1,87 +1,41 @@
-use Rattle.std.proofs.Common.{◌<◌, ◌≤◌, length, vec_items, refl, arith}
-use Rattle.chain_rows.proofs.Nodes.{chained_within, below_of}
-use Rattle.chain_rows.proofs.Puts.{found_at, found_prev, found_grows, chained_same, drawn_same, puts_same, puts_first, puts_behind}
-use Rattle.chain_rows.proofs.Stays.{stays_same, stays_first, stays_behind}
+use Rattle.std.proofs.Common.{refl, arith}
+use Rattle.chain_rows.proofs.Nodes.{chained_within}
+use Rattle.chain_rows.proofs.Lengths.{chained_short}
+use Rattle.chain_rows.proofs.Puts.{found_grows, puts_same, puts_first, puts_behind}
+use Rattle.chain_rows.proofs.Stays.{grows_same, grows_first, grows_behind}
 use Rattle.chains.proofs.walking.put_entry.Goals as goal
 
-pub find-spot-requires : goal.find-spot-requires
-find-spot-requires g c =
-    let l : c.args.used ≤ length (vec_items c.args.rows.now) = omega (arith, c.requires.taken, c.args.rows.now.ok.0) in
-    (chained_within _ c.args.used (vec_items c.args.rows.now) c.args.head c.args.len c.requires.chained l, c.requires.known)
+pub find-requires-clause-within : goal.find-requires-clause-within
+find-requires-clause-within g c = chained_within _ c.args.used _ _ _ c.requires.chained c.requires.taken
 
-pub index-requires : goal.index-requires
-index-requires g c =
-    let h : c.find-spot.result.at < length (vec_items c.args.rows.now) = found_at _ _ _ _ _ _ _ c.find-spot.result c.find-spot.ensures c.if-spot.true in
-    omega (arith, h, c.args.rows.now.ok.0)
+pub overflow_add-len : goal.overflow_add-len
+overflow_add-len g c =
+    let s = chained_short _ c.args.used _ _ _ c.requires.chained in
+    omega (arith, s)
 
-pub index_mut-requires : goal.index_mut-requires
-index_mut-requires g c =
-    let h : c.find-spot.result.at < length (vec_items c.args.rows.now) = found_at _ _ _ _ _ _ _ c.find-spot.result c.find-spot.ensures c.if-spot.true in
-    omega (arith, h, c.args.rows.now.ok.0)
+pub returns-then-used-rows-clause-puts : goal.returns-then-used-rows-clause-puts
+returns-then-used-rows-clause-puts g c =
+    let G = found_grows _ _ _ _ _ _ _ c.in-Err.gap c.args.value c.in-Err.ensures in
+    λ h. absurd (omega (arith, h, G))
 
-pub index-last-requires : goal.index-last-requires
-index-last-requires g c =
-    let h : c.find-spot.result.prev < c.args.used =
-    found_prev _ _ _ _ _ _ _ _ c.find-spot.result c.find-spot.ensures c.if-spot-eq0.false (below_of _ _ _ _ c.requires.chained.0) in
-    omega (arith, h, c.requires.taken)
+pub returns-in-Ok-clause-puts : goal.returns-in-Ok-clause-puts
+returns-in-Ok-clause-puts g c = λ _. puts_same _ _ _ _ _ _ _ _ c.args.value _ c.in-Ok.ensures c.requires.chained.2
 
-pub index_mut-requires-3 : goal.index_mut-requires-3
-index_mut-requires-3 g c =
-    let h : c.find-spot.result.prev < c.args.used =
-    found_prev _ _ _ _ _ _ _ _ c.find-spot.result c.find-spot.ensures c.if-spot-eq0.false (below_of _ _ _ _ c.requires.chained.0) in
-    omega (arith, h, c.requires.taken)
+pub returns-in-Ok-clause-grows : goal.returns-in-Ok-clause-grows
+returns-in-Ok-clause-grows g c = grows_same _ _ _ _ _ _ _ c.args.value c.requires.chained c.requires.known _ _ c.in-Ok.ensures
 
-pub returns-then-spot : goal.returns-then-spot
-returns-then-spot g c =
-    let S = stays_same _ _ _ _ _ _ _ c.args.used c.find-spot.result c.args.value c.index.result.now c.find-spot.ensures c.if-spot.true c.requires.chained c.requires.known c.index.ensures in
-    record {
-      fits = omega (arith, c.requires.taken);
-      puts = λ _. puts_same _ _ _ _ _ _ _ c.find-spot.result _ c.index.result.now c.find-spot.ensures c.if-spot.true c.requires.chained.2 c.index.ensures;
-      long = refl;
-      more = omega arith;
-      frame = S.frame;
-      kept = S.kept;
-      drawn = S.drawn;
-    }
+pub returns-in-None-clause-puts : goal.returns-in-None-clause-puts
+returns-in-None-clause-puts g c =
+    λ _. puts_first _ _ _ _ _ _ _ c.in-Err.gap c.args.value c.in-Err.ensures c.args.used c.in-None.is c.requires.chained.0 c.if-used-rows.false
 
-pub returns-then-spot-eq0 : goal.returns-then-spot-eq0
-returns-then-spot-eq0 g c =
-    let l : c.args.used < length (vec_items c.args.rows.now) = omega (arith, c.if-used-len.false, c.len.ensures, c.args.rows.now.ok.0) in
-    let S = stays_first _ _ _ _ _ _ _ c.args.used c.find-spot.result c.args.value c.find-spot.ensures c.if-spot-eq0.true c.requires.chained c.requires.known l in
-    record {
-      fits = omega (arith, l, c.args.rows.now.ok.0);
-      puts = λ _. puts_first _ _ _ _ _ _ _ _ c.find-spot.result _ c.find-spot.ensures c.if-spot.false c.if-spot-eq0.true (below_of _ _ _ _ c.requires.chained.0) l;
-      long = refl;
-      more = omega arith;
-      frame = S.frame;
-      kept = S.kept;
-      drawn = S.drawn;
-    }
+pub returns-in-None-clause-grows : goal.returns-in-None-clause-grows
+returns-in-None-clause-grows g c =
+    grows_first _ _ _ _ c.args.from _ _ c.args.value c.requires.chained c.requires.known c.in-Err.gap c.in-Err.ensures c.if-used-rows.false c.in-None.is
 
-pub returns : goal.returns
-returns g c =
-    let l : c.args.used < length (vec_items c.args.rows.now) = omega (arith, c.if-used-len.false, c.len.ensures, c.args.rows.now.ok.0) in
-    let S = stays_behind _ _ _ _ _ _ _ c.args.used c.find-spot.result c.args.value c.index-last.result.now c.find-spot.ensures c.if-spot-eq0.false c.requires.chained c.requires.known l c.index-last.ensures in
-    record {
-      fits = omega (arith, l, c.args.rows.now.ok.0);
-      puts = λ _. puts_behind _ _ _ _ _ _ _ _ c.find-spot.result _ _ c.index-last.result.now c.find-spot.ensures c.if-spot.false c.if-spot-eq0.false c.requires.chained.2
-          (below_of _ _ _ _ c.requires.chained.0) l refl c.index-last.ensures;
-      long = refl;
-      more = omega arith;
-      frame = S.frame;
-      kept = S.kept;
-      drawn = S.drawn;
-    }
+pub returns-in-Some-clause-puts : goal.returns-in-Some-clause-puts
+returns-in-Some-clause-puts g c =
+    λ _. puts_behind _ _ _ _ _ _ _ c.in-Err.gap c.args.value c.in-Err.ensures c.in-Some.prev c.in-Some.is _ c.args.used _ _ c.requires.chained c.if-used-rows.false refl
 
-pub returns-then-used-len : goal.returns-then-used-len
-returns-then-used-len g c =
-    let G = found_grows _ _ _ _ _ _ _ c.find-spot.result c.args.value c.find-spot.ensures c.if-spot.false in
-    record {
-      puts = λ h. absurd (omega (arith, h, G, c.if-used-len.true, c.len.ensures));
-      long = refl;
-      fits = omega (arith, c.requires.taken);
-      more = omega arith;
-      frame = λ j l o. refl;
-      kept = chained_same _ c.args.used (vec_items c.args.rows.now) c.args.head c.args.len c.requires.chained;
-      drawn = drawn_same c.args.used (vec_items c.args.rows.now) c.args.head c.args.len;
-    }
+pub returns-in-Some-clause-grows : goal.returns-in-Some-clause-grows
+returns-in-Some-clause-grows g c =
+    grows_behind _ _ _ _ c.args.from _ _ c.args.value c.requires.chained c.requires.known c.in-Err.gap c.in-Err.ensures c.if-used-rows.false c.in-Some.prev c.in-Some.is _ _ refl

@@ -1,10 +1,6 @@
-use Rattle.std.proofs.Common.{◌≡◌}
-use Rattle.books.specs.Books.{book_keys, book_room}
+use Rattle.books.specs.Books.{book_keys, SameSlots}
 use Rattle.history.proofs.Noting.{Noting}
 use Rattle.history.proofs.notes.note_file.Given as goal
 
 abbrev pub invariant-loop-k : goal.invariant-loop-k
-invariant-loop-k l =
-    Noting (book_keys l.initial.history) (book_keys l.history) l.file l.prints l.k
-    × (book_room l.history ≡ book_room l.initial.history)
-    × (l.history.slots.ghost_name ≡ l.initial.history.slots.ghost_name)
+invariant-loop-k l = record { pieces : Noting (book_keys l.initial.history) (book_keys l.history) l.file l.prints l.k; slots : SameSlots l.initial.history l.history }

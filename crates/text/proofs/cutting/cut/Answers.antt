@@ -1,21 +1,21 @@
--- The loop passes what is no separator.
-use Rattle.std.proofs.Common.{arith}
-use Rattle.text.proofs.Cuts.{cutting_start, cutting_more, cutting_word, cutting_rest, cutting_all}
+-- The first part ends at the first separator.
+use Rattle.std.proofs.Common.{◌≡◌, eqb, sym, ◌∙◌, rules, tests}
+use Rattle.std.proofs.lemmas.Iterator.{YieldsList-from_slice}
+use Rattle.std.proofs.lemmas.Iterator.Search.{position_from_yields_List}
+use Rattle.std.specs.List.{position}
+use Rattle.text.proofs.Cuts.{cut_at, cut_nowhere}
 use Rattle.text.proofs.cutting.cut.Goals as goal
 
-pub loop-i-init : goal.loop-i-init
-loop-i-init c = cutting_start c.args.separator c.args.text.now
+pub returns-in-Some : goal.returns-in-Some
+returns-in-Some c =
+    let is : c.position.result ≡ position (λ b. eqb b c.args.separator) c.args.text.now =
+    position_from_yields_List (λ b. eqb b c.args.separator) _ _ c.position.result c.position.ensures.ran (YieldsList-from_slice c.args.text.now cc) (λ x b q k. search (rules, tests)) in
+    let r = cut_at c.args.separator c.args.text.now c.in-Some.i (sym c.in-Some.is ∙ is) in
+    record { part = r.0; rest = r.1 }
 
-pub returns-then-b-separator : goal.returns-then-b-separator
-returns-then-b-separator c = record {
-  part = cutting_word c.args.separator c.args.text.now c.loop-i.i c.loop-i.invariant c.loop-i-test.true c.if-b-separator.true;
-  rest = cutting_rest c.args.separator c.args.text.now c.loop-i.i c.loop-i.invariant c.loop-i-test.true c.if-b-separator.true;
-}
-
-pub loop-i-preserved : goal.loop-i-preserved
-loop-i-preserved c = cutting_more c.args.separator c.args.text.now c.loop-i.i c.loop-i.invariant c.loop-i-test.true c.if-b-separator.false
-
-pub returns : goal.returns
-returns c =
-    let all = cutting_all c.args.separator c.args.text.now c.loop-i.i c.loop-i.invariant (omega arith) in
-    record { part = all.0; rest = all.1 }
+pub returns-in-None : goal.returns-in-None
+returns-in-None c =
+    let is : c.position.result ≡ position (λ b. eqb b c.args.separator) c.args.text.now =
+    position_from_yields_List (λ b. eqb b c.args.separator) _ _ c.position.result c.position.ensures.ran (YieldsList-from_slice c.args.text.now cc) (λ x b q k. search (rules, tests)) in
+    let r = cut_nowhere c.args.separator c.args.text.now (sym c.in-None.is ∙ is) in
+    record { part = r.0; rest = r.1 }

@@ -1,20 +1,14 @@
-use Rattle.std.proofs.Common.{vec_items, refl, ap, arith}
-use Rattle.chain_rows.specs.declared.row.Chain.{Chain}
-use Rattle.chain_rows.specs.Sound.{chain_at}
-use Rattle.chains.proofs.Opened.{chain_is, walkable}
-use Rattle.chain_rows.proofs.Puts.{chain_length}
+use Rattle.std.proofs.Common.{rules}
+use Rattle.std.proofs.lemmas.Iterator.Consumers.{nth_from_yields_List, YieldsList-from_first}
+use Rattle.chain_rows.specs.Chains.{entry_of}
+use Rattle.chain_rows.proofs.Looking.{nth_version}
+use Rattle.chains.specs.Views.{entries_of}
+use Rattle.chains.specs.Walks.{entries_left}
 use Rattle.chains.proofs.table.ChainTable.version_of.Goals as goal
 
-pub returns-then-k-chain : goal.returns-then-k-chain
-returns-then-k-chain c =
-    λ h k.
-    let t = c.args.self.now in
-    let e = ap (λ (r : Chain). r.len) (chain_is t c.args.i c.index-chain.result.now h c.index-chain.ensures) in
-    let l = chain_length (vec_items t.rows) (chain_at (vec_items t.chains) c.args.i).head (chain_at (vec_items t.chains) c.args.i).len in
-    absurd (omega (arith, k, e, l, c.if-k-chain.true))
-
-pub version_at-requires : goal.version_at-requires
-version_at-requires c =
-    let t = c.args.self.now in
-    let e = chain_is t c.args.i c.index-chain.result.now c.if-i-self.false c.index-chain.ensures in
-    record { within = walkable t c.args.i c.index-chain.result.now t.versions c.if-i-self.false e refl; inside = c.if-k-chain.false }
+pub returns : goal.returns
+returns c = λ h k.
+    let es = entries_of c.args.self.now c.args.i in
+    nth_version es c.args.k c.nth.result c.map_or.result _ _
+    (nth_from_yields_List c.nth.result c.nth.new.self c.args.k c.nth.ensures.ran (YieldsList-from_first entry_of entries_left es c.walk.ensures.entries)) k
+    c.map_or.ensures (λ row p. search rules)

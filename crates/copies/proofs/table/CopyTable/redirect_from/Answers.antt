@@ -1,14 +1,19 @@
-use Rattle.std.proofs.Common.{[], ◌∷◌, length}
+use Rattle.std.proofs.Common.{◌≡◌, ℕ, length, arith, subst}
 use Rattle.order.specs.Items.{position}
-use Rattle.copies.proofs.Redirecting.{redirects_more}
+use Rattle.copies.specs.Views.{RedirectsAll}
+use Rattle.copies.proofs.Redirecting.{last_naming, redirects_none, redirects_turn}
 use Rattle.copies.proofs.table.CopyTable.redirect_from.Goals as goal
+
+pub loop-field-init : goal.loop-field-init
+loop-field-init g c = redirects_none (position (g.O.VersionOrder.items c.args.order.now)) (length (g.O.VersionOrder.items c.args.order.now)) c.args.names.old c.args.names.new c.args.x c.args.i c.args.self.now
+
+pub loop-field-preserved : goal.loop-field-preserved
+loop-field-preserved g c =
+    redirects_turn (position (g.O.VersionOrder.items c.args.order.now)) (length (g.O.VersionOrder.items c.args.order.now)) c.args.names.old c.args.names.new c.args.x c.args.i
+    c.loop-field.field-index _ c.args.self.now c.loop-field.self c.redirect_field.new.self c.loop-field-test.true c.loop-field.invariant c.redirect_field.ensures
 
 pub returns : goal.returns
 returns g c =
-    let more = redirects_more (position (g.O.VersionOrder.items c.args.order.now)) (length (g.O.VersionOrder.items c.args.order.now)) c.args.c c.args.d c.args.x c.args.i in
-    let t = c.args.self.now in
-    more 0 (1 ∷ 2 ∷ 3 ∷ 4 ∷ []) t c.redirect_field-4.new.self c.redirect_field-5.new.self
-    (more 1 (2 ∷ 3 ∷ 4 ∷ []) t c.redirect_field-3.new.self c.redirect_field-4.new.self
-    (more 2 (3 ∷ 4 ∷ []) t c.redirect_field-2.new.self c.redirect_field-3.new.self
-    (more 3 (4 ∷ []) t c.redirect_field.new.self c.redirect_field-2.new.self c.redirect_field.ensures c.redirect_field-2.ensures) c.redirect_field-3.ensures) c.redirect_field-4.ensures)
-    c.redirect_field-5.ensures
+    let end : c.loop-field.field-index ≡ 5 = omega arith in
+    subst (λ (k : ℕ). RedirectsAll (position (g.O.VersionOrder.items c.args.order.now)) (length (g.O.VersionOrder.items c.args.order.now)) c.args.names.old c.args.names.new c.args.x c.args.i
+    (last_naming k) c.args.self.now c.loop-field.self) end c.loop-field.invariant

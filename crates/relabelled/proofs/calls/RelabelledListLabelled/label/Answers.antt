@@ -1,13 +1,6 @@
-use Rattle.std.proofs.Common.{arith}
-use Rattle.linked_lists.proofs.Open.{opened}
-use Rattle.linked_lists.proofs.Replies.{label_ok, label_unknown}
+use Rattle.linked_lists.proofs.Replies.{label_ok}
+use Rattle.relabelled.proofs.Opened.{rises}
 use Rattle.relabelled.proofs.calls.RelabelledListLabelled.label.Goals as goal
 
-pub returns-then-a-self : goal.returns-then-a-self
-returns-then-a-self c = label_unknown (opened c.args.self.now.sound) c.args.a c.if-a-self.true
-
-pub index-requires : goal.index-requires
-index-requires c = let s = opened c.args.self.now.sound in let r = s.room in omega arith
-
 pub returns : goal.returns
-returns c = label_ok (opened c.args.self.now.sound) c.args.a c.index.result.now c.if-a-self.false c.index.ensures
+returns c = label_ok (rises c.args.self.now) c.args.a c.in_ok-row.field-0 c.in_ok-row.ensures.0 c.in_ok-row.ensures.1

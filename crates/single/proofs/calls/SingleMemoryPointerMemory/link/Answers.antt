@@ -1,114 +1,79 @@
-use Rattle.std.proofs.Common.{◌≡◌, ◌<◌, true, false, length, get_or, None, vec_items, sym, refl, ap, ◌∙◌, arith, length-set, rules}
-use Rattle.memory.specs.Steps.{link_of}
+use Rattle.std.proofs.Common.{◌≡◌, ◌<◌, length, get_or, None, vec_items, Ok, sym, refl, ◌∙◌, arith, length-set}
 use Rattle.memory.proofs.Accepted.{link_done}
-use Rattle.memory.proofs.Refused.{link_spent, link_third}
-use Rattle.single.specs.Rows.{row_linked, lowered, crowds}
+use Rattle.single.specs.Rows.{row_linked, node_of}
 use Rattle.single.proofs.Table.{all_at, all_set, Fine, fine_set}
-use Rattle.single.proofs.Means.{untrue, fine, table_long, reg_below, in_table, raised_in, names_few, held_in, held_low, holds, holds_some, row_below, row_two, row_few, row_blank, free, spent, reg_crowds, reg_few, link_fine, link_rows_at, long_set, length_linked}
+use Rattle.single.proofs.Means.{fine, table_long, reg_below, row_below, row_two, row_few, free, reg_few, rename_means, number_rows, same_linked, same_row}
+use Rattle.single.proofs.FirstReads.{refuses_back, relink_refused, row_read, node_low, node_in, name_given, is_left}
 use Rattle.single.proofs.calls.SingleMemoryPointerMemory.link.Goals as goal
 
-pub returns-then-from-ge40 : goal.returns-then-from-ge40
-unfolding link_of
-returns-then-from-ge40 g c = search rules
-
-pub returns-in_default : goal.returns-in_default
-unfolding link_of
-returns-in_default g c = search rules
-
-pub returns-then-self : goal.returns-then-self
-returns-then-self g c = record {
-  does = λ m h. let s = c.args.self.now in
-      let H = holds_some s m c.args.from h c.if-from-ge40.false (search rules) in
-      rw (link_spent c.args.from c.args.side c.args.reg H.0 H.1 m H.2 c.if-side-ge2.false c.if-reg-ge40.false h.writable (spent s m h (search rules))) (record { is = (refl, refl) });
-  foreign = λ e. untrue e;
-}
-
 pub index-requires : goal.index-requires
-index-requires g c = held_in c.args.self.now c.args.from _ (search rules)
+index-requires g c = node_in c.args.self.now c.args.from _ (sym c.in_ok-k.ensures)
 
-pub crowded-requires : goal.crowded-requires
-crowded-requires g c = let s = c.args.self.now in in_table s (get_or s.regs c.args.reg None) (reg_below s c.args.reg)
+pub rename-requires-clause-held : goal.rename-requires-clause-held
+rename-requires-clause-held g c =
+    let s = c.args.self.now in
+    let r = c.index.result.now in
+    all_at s.made r.links (row_below s _ r c.index.ensures (node_low s c.args.from _ (sym c.in_ok-k.ensures))) c.args.side
 
-pub returns-then-crowded : goal.returns-then-crowded
-returns-then-crowded g c = record {
-  does = λ m h. let s = c.args.self.now in
-      let r = c.index.result.now in
-      let old = get_or r.links c.args.side None in
-      let q : crowds (vec_items s.rows) old (get_or s.regs c.args.reg None) ≡ true = search rules in
-      let H = holds s m c.args.from _ r h c.index.ensures c.if-from-ge40.false (search rules) in
-      rw (link_third c.args.from c.args.side c.args.reg _ H.0 m H.1 c.if-side-ge2.false c.if-reg-ge40.false (free s m h (search rules))
-      (rw (H.2.links c.args.side c.if-side-ge2.false) (reg_crowds s m c.args.reg old h c.if-reg-ge40.false q))) (record { is = (refl, refl) });
-  foreign = λ e. untrue e;
-}
+pub rename-requires-clause-known : goal.rename-requires-clause-known
+rename-requires-clause-known g c = reg_below c.args.self.now c.args.reg
+
+pub returns-in_err-rename-clause-does : goal.returns-in_err-rename-clause-does
+returns-in_err-rename-clause-does g c m h =
+    let s = c.args.self.now in
+    let H = row_read s m c.args.from _ c.index.result.now h c.index.ensures (sym c.in_ok-k.ensures) in
+    refuses_back c.in_err-rename.ensures.1 c.from_residual-in_err-rename.ensures.1 (relink_refused s m c.args.from c.args.side c.args.reg _ H.0 _ h H.1 c.if-side-ge2.false c.if-reg-ge40.false
+    (rw (H.2.links c.args.side c.if-side-ge2.false) c.in_err-rename.ensures.0))
 
 pub index_mut-requires : goal.index_mut-requires
-index_mut-requires g c = held_in c.args.self.now c.args.from _ (search rules)
-
-pub raise-requires : goal.raise-requires
-raise-requires g c =
-    let s = c.args.self.now in
-    let r = c.index.result.now in
-    let new = get_or s.regs c.args.reg None in
-    let l = held_low s c.args.from _ (search rules) in
-    record {
-      known = in_table s new (reg_below s c.args.reg);
-      few = names_few s.made _ new (fine_set s.made (vec_items s.rows) _ (row_linked c.args.side new r) (let a = table_long s in omega arith) (fine s)
-          (all_set s.made r.links c.args.side new (row_below s _ r c.index.ensures l) (reg_below s c.args.reg)) (length-set r.links c.args.side new ∙ row_two s _ r c.index.ensures l) (row_few s _ r c.index.ensures l)) (reg_below s c.args.reg);
-    }
-
-pub lower-requires : goal.lower-requires
-lower-requires g c =
-    let s = c.args.self.now in
-    let r = c.index.result.now in
-    let new = get_or s.regs c.args.reg None in
-    let l = held_low s c.args.from _ (search rules) in
-    raised_in _ s.made _ _ new (get_or r.links c.args.side None) c.raise.ensures c.raise.new.rows.ok.0
-    (long_set s _ (row_linked c.args.side new r)) (all_at s.made r.links (row_below s _ r c.index.ensures l) c.args.side)
+index_mut-requires g c = node_in c.rename.new.self c.args.from _ (rw c.in_ok-rename.ensures.1.regs (sym c.in_ok-k.ensures))
 
 pub invariant_of-self : goal.invariant_of-self
 invariant_of-self g c =
     let s = c.args.self.now in
-    let r = c.index.result.now in
-    let old = get_or r.links c.args.side None in
+    let t = c.rename.new.self in
+    let r = c.index_mut.result.now in
+    let e = c.index_mut.ensures.value in
     let new = get_or s.regs c.args.reg None in
-    let q : crowds (vec_items s.rows) old new ≡ false = search rules in
-    let l = held_low s c.args.from _ (search rules) in
-    let ok = row_below s _ r c.index.ensures l in
-    let e = c.lower.ensures ∙ ap (λ xs. lowered xs old) c.raise.ensures in
-    let len = length_linked (vec_items s.rows) _ _ (row_linked c.args.side new r) old new e in
-    let F : Fine s.made (vec_items c.lower.new.rows) = link_fine (vec_items s.rows) _ s.made _ (row_linked c.args.side new r) old new (fine s) l (table_long s)
-    (all_set s.made r.links c.args.side new ok (reg_below s c.args.reg)) (length-set r.links c.args.side new ∙ row_two s _ r c.index.ensures l) (row_blank s _ r c.index.ensures l) (all_at s.made r.links ok c.args.side) (reg_below s c.args.reg) q e in
-    record { few = s.few; roomy = search rules; spent = omega arith; rooted = s.rooted; held = s.held; linked = F.linked; two = F.two; named = F.named }
+    let D = c.in_ok-rename.ensures.1 in
+    let l = node_low t c.args.from c.in_ok-k.k (rw D.regs (sym c.in_ok-k.ensures)) in
+    let F : Fine t.made _ = fine_set t.made (vec_items t.rows) c.in_ok-k.k (row_linked c.args.side new r) (let a = table_long t in omega arith) (fine t)
+    (all_set t.made r.links c.args.side new (row_below t _ r e l) (rw D.made (reg_below s c.args.reg))) (length-set r.links c.args.side new ∙ row_two t _ r e l) (row_few t _ r e l) in
+    record { few = t.few; roomy = t.roomy; spent = t.spent; rooted = t.rooted; held = t.held; linked = F.linked; two = F.two; named = F.named }
 
-pub returns : goal.returns
-returns g c =
+pub returns-clause-does : goal.returns-clause-does
+returns-clause-does g c m h =
     let s = c.args.self.now in
+    let t = c.rename.new.self in
+    let k = c.in_ok-k.k in
     let r = c.index.result.now in
+    let q = c.index_mut.result.now in
     let old = get_or r.links c.args.side None in
     let new = get_or s.regs c.args.reg None in
-    let q : crowds (vec_items s.rows) old new ≡ false = search rules in
-    let l = held_low s c.args.from _ (search rules) in
-    let within : c.args.side < length r.links = omega (arith, row_two s _ r c.index.ensures l, c.if-side-ge2.false) in
-    let e = c.lower.ensures ∙ ap (λ xs. lowered xs old) c.raise.ensures in record {
-      does = λ m h.
-          let H = holds s m c.args.from _ r h c.index.ensures c.if-from-ge40.false (search rules) in
-          rw (link_done c.args.from c.args.side c.args.reg _ H.0 m H.1 c.if-side-ge2.false c.if-reg-ge40.false (free s m h (search rules))
-          (rw (H.2.links c.args.side c.if-side-ge2.false) (reg_few s m c.args.reg old h c.if-reg-ge40.false q)))
-          (record {
-            is = (
-              refl,
-              record {
-                roots = h.roots;
-                regs = h.regs;
-                rows = link_rows_at s m c.args.reg _ r H.0 c.args.side old _ h c.if-reg-ge40.false c.index.ensures l within H.2 (sym (H.2.links c.args.side c.if-side-ge2.false))
-                    (all_at s.made r.links (row_below s _ r c.index.ensures l) c.args.side) e;
-                made = h.made;
-                changed = omega (arith, h.changed);
-                node_limit = h.node_limit;
-                change_limit = h.change_limit;
-                writable = h.writable;
-              },
-            );
-          });
-      foreign = λ e. untrue e;
-    }
+    let D = c.in_ok-rename.ensures.1 in
+    let given = name_given (vec_items s.rows) old new _ c.in_ok-rename.ensures.0 in
+    let reg = h.regs c.args.reg c.if-reg-ge40.false in
+    let l = node_low s c.args.from k (sym c.in_ok-k.ensures) in
+    let H = row_read s m c.args.from k r h c.index.ensures (sym c.in_ok-k.ensures) in
+    let link = H.2.links c.args.side c.if-side-ge2.false in
+    let M = rename_means s t m old new h D (all_at s.made r.links (row_below s k r c.index.ensures l) c.args.side) (reg_below s c.args.reg) in
+    let held : node_of t.regs c.args.from ≡ Ok k = rw D.regs (sym c.in_ok-k.ensures) in
+    let l' = node_low t c.args.from k held in
+    let S = same_row t _ k q H.0 M c.index_mut.ensures.value l' H.1.node in
+    let within : c.args.side < length q.links = omega (arith, row_two t k q c.index_mut.ensures.value l', c.if-side-ge2.false) in
+    rw (link_done c.args.from c.args.side c.args.reg k H.0 m H.1 c.if-side-ge2.false c.if-reg-ge40.false (free s m h (is_left s given.0)) (rw link (reg_few s m c.args.reg old h c.if-reg-ge40.false given.1)))
+    (record {
+      is = (
+        refl,
+        record {
+          roots = M.roots;
+          regs = M.regs;
+          rows = rw link (rw reg (number_rows t _ k q _ _ M c.index_mut.ensures.value l' refl (same_linked H.0 q c.args.side new new within refl S)));
+          made = M.made;
+          changed = M.changed;
+          node_limit = M.node_limit;
+          change_limit = M.change_limit;
+          writable = M.writable;
+        },
+      );
+    })

@@ -1,51 +1,43 @@
-use Rattle.std.proofs.Common.{refl, arith, rules}
-use Rattle.memory.specs.Steps.{set_number_of}
+use Rattle.std.proofs.Common.{◌≡◌, Ok, refl}
+use Rattle.memory.specs.Steps.{of_number}
 use Rattle.memory.proofs.Accepted.{set_number_done}
-use Rattle.memory.proofs.Refused.{set_number_spent}
-use Rattle.single.proofs.Means.{untrue, held_in, held_low, holds, holds_some, free, spent, number_rows, same_marked}
+use Rattle.single.specs.Rows.{node_of}
+use Rattle.single.proofs.Means.{free, change_means, number_rows, same_marked}
+use Rattle.single.proofs.FirstReads.{refuses_back, number_refused, row_read, node_low, node_in, node_given, is_left}
 use Rattle.single.proofs.calls.SingleMemoryPointerMemory.set_mark.Goals as goal
 
-pub returns-then-reg-ge40 : goal.returns-then-reg-ge40
-unfolding set_number_of
-returns-then-reg-ge40 g c = search rules
-
-pub returns-in_default : goal.returns-in_default
-unfolding set_number_of
-returns-in_default g c = search rules
-
-pub returns-then-self : goal.returns-then-self
-returns-then-self g c = record {
-  does = λ m h.
-      let s = c.args.self.now in
-      let H = holds_some s m c.args.reg h c.if-reg-ge40.false (search rules) in
-      rw (set_number_spent 1 c.args.reg c.args.mark H.0 H.1 m H.2 h.writable (spent s m h (search rules))) (record { is = (refl, refl) });
-  foreign = λ e. untrue e;
-}
+pub returns-in_err-k-clause-does : goal.returns-in_err-k-clause-does
+returns-in_err-k-clause-does g c m h = refuses_back c.in_err-k.ensures.1 c.from_residual.ensures.1 (number_refused c.args.self.now m 1 c.args.reg c.args.mark _ h c.in_err-k.ensures.0)
 
 pub index_mut-requires : goal.index_mut-requires
-index_mut-requires g c = held_in c.args.self.now c.args.reg _ (search rules)
+index_mut-requires g c =
+    let t = c.changing.new.self in
+    node_in t c.args.reg _ (rw c.in_ok-k.ensures.1.regs (node_given _ _ _ c.in_ok-k.ensures.0).0)
 
-pub returns : goal.returns
-returns g c = record {
-  does = λ m h.
-      let s = c.args.self.now in
-      let r = c.index_mut.result.now in
-      let H = holds s m c.args.reg _ r h c.index_mut.ensures.value c.if-reg-ge40.false (search rules) in
-      rw (set_number_done 1 c.args.reg c.args.mark _ H.0 m H.1 (free s m h (search rules)))
-      (record {
-        is = (
-          refl,
-          record {
-            roots = h.roots;
-            regs = h.regs;
-            rows = number_rows s m _ r _ _ h c.index_mut.ensures.value (held_low s c.args.reg _ (search rules)) refl (same_marked H.0 r c.args.mark H.2);
-            made = h.made;
-            changed = omega (arith, h.changed);
-            node_limit = h.node_limit;
-            change_limit = h.change_limit;
-            writable = h.writable;
-          },
-        );
-      });
-  foreign = λ e. untrue e;
-}
+pub returns-clause-does : goal.returns-clause-does
+returns-clause-does g c m h =
+    let s = c.args.self.now in
+    let t = c.changing.new.self in
+    let k = c.in_ok-k.k in
+    let r = c.index_mut.result.now in
+    let D = c.in_ok-k.ensures.1 in
+    let given = node_given _ _ _ c.in_ok-k.ensures.0 in
+    let M = change_means s t m of_number _ m.state.names h D h.rows in
+    let held : node_of t.regs c.args.reg ≡ Ok k = rw D.regs given.0 in
+    let H = row_read t _ c.args.reg k r M c.index_mut.ensures.value held in
+    rw (set_number_done 1 c.args.reg c.args.mark k H.0 m (record { low = H.1.low; names = H.1.names; node = H.1.node }) (free s m h (is_left s given.1)))
+    (record {
+      is = (
+        refl,
+        record {
+          roots = M.roots;
+          regs = M.regs;
+          rows = number_rows t _ k r _ _ M c.index_mut.ensures.value (node_low t c.args.reg k held) refl (same_marked H.0 r c.args.mark H.2);
+          made = M.made;
+          changed = M.changed;
+          node_limit = M.node_limit;
+          change_limit = M.change_limit;
+          writable = M.writable;
+        },
+      );
+    })

@@ -1,24 +1,14 @@
-use Rattle.std.proofs.Common.{sym, rules}
+use Rattle.std.proofs.Common.{sym}
 use Rattle.memory.specs.Steps.{number_of}
 use Rattle.memory.proofs.Accepted.{number_done}
-use Rattle.single.proofs.Means.{untrue, held_in, holds}
+use Rattle.single.proofs.FirstReads.{refuses, no_node, row_read}
 use Rattle.single.proofs.calls.SingleMemoryPointerMemory.value.Goals as goal
 
-pub returns-then-reg-ge40 : goal.returns-then-reg-ge40
+pub returns-in_err-row-clause-does : goal.returns-in_err-row-clause-does
 unfolding number_of
-returns-then-reg-ge40 g c = search rules
+returns-in_err-row-clause-does g c m h = refuses c.from_residual.ensures.1 (no_node c.args.self.now m c.args.reg _ _ h c.in_err-row.ensures)
 
-pub returns-in-None : goal.returns-in-None
-unfolding number_of
-returns-in-None g c = search rules
-
-pub index-requires : goal.index-requires
-index-requires g c = held_in c.args.self.now c.args.reg _ (search rules)
-
-pub returns-in-Some : goal.returns-in-Some
-returns-in-Some g c = record {
-  does = λ m h.
-      let H = holds c.args.self.now m c.args.reg _ c.index.result.now h c.index.ensures c.if-reg-ge40.false (search rules) in
-      rw (number_done 0 c.args.reg _ H.0 m H.1) (record { is = (sym H.2.value, h) });
-  foreign = λ e. untrue e;
-}
+pub returns-clause-does : goal.returns-clause-does
+returns-clause-does g c m h =
+    let R = row_read c.args.self.now m c.args.reg _ _ h c.in_ok-row.ensures.2 c.in_ok-row.ensures.1 in
+    rw (number_done 0 c.args.reg _ R.0 m R.1) (record { is = (sym R.2.value, h) })

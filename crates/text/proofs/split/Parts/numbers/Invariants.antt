@@ -3,8 +3,8 @@ use Rattle.text.specs.Left.{left}
 use Rattle.text.proofs.Sofar.{Sofar}
 use Rattle.text.proofs.split.Parts.numbers.Given as goal
 
-abbrev pub invariant-loop-words : goal.invariant-loop-words
-invariant-loop-words l = Sofar (left l.initial.words) (left l.words) (vec_items l.numbers)
+abbrev pub invariant-loop-part : goal.invariant-loop-part
+invariant-loop-part l = Sofar (left l.initial.self) (left l.part-iterator) (vec_items l.numbers)
 
-abbrev pub decreases-loop-words : goal.decreases-loop-words
-decreases-loop-words l = length (left l.words)
+abbrev pub decreases-loop-part : goal.decreases-loop-part
+decreases-loop-part l = length (left l.part-iterator)

@@ -1,16 +1,9 @@
-use Rattle.std.proofs.Common.{arith}
-use Rattle.grouping.proofs.Open.{opened}
-use Rattle.grouping.proofs.Replies.{label_ok, label_unknown}
+use Rattle.grouping.proofs.Replies.{label_ok}
 use Rattle.relabelled.specs.Held.{items_within, entries_long}
+use Rattle.two_level.proofs.Opened.{open_list}
 use Rattle.two_level.proofs.calls.TwoLevelListLabelled.label.Goals as goal
-
-pub returns-then-a-self : goal.returns-then-a-self
-returns-then-a-self c = label_unknown (opened c.args.self.now.sound) c.args.a _ c.if-a-self.true
-
-pub index-requires : goal.index-requires
-index-requires c = let s = opened c.args.self.now.sound in let r = s.room in omega arith
 
 pub returns : goal.returns
 returns c =
-    label_ok (opened c.args.self.now.sound) c.args.a c.index.result.now c.label.result _ c.if-a-self.false c.index.ensures
+    label_ok (open_list c.args.self.now) c.args.a c.in_ok-row.field-0 c.label.result _ c.in_ok-row.ensures.0 c.in_ok-row.ensures.1
     (items_within c.args.self.now.groups) (entries_long c.args.self.now.groups) c.label.ensures

@@ -1,0 +1,14 @@
+-- The long words, each from its bytes.
+use Rattle.std.proofs.Common.{rules, ◌≡◌, codes}
+use Rattle.std.proofs.lemmas.Slice.Eq.{text_from_reads}
+use Rattle.memory_reading.proofs.read.writes.Goals as goal
+
+pub returns-in_ok-number-in-115-2-2-clause-call : goal.returns-in_ok-number-in-115-2-2-clause-call
+returns-in_ok-number-in-115-2-2-clause-call c =
+    let word : c.args.word.now ≡ codes "set-mark" = text_from_reads _ _ (search rules) (search rules) in
+    search (rules, word)
+
+pub returns-in_ok-number-in-115-3-clause-call : goal.returns-in_ok-number-in-115-3-clause-call
+returns-in_ok-number-in-115-3-clause-call c =
+    let word : c.args.word.now ≡ codes "set-value" = text_from_reads _ _ (search rules) (search rules) in
+    search (rules, word)
