@@ -1,4 +1,5 @@
-// A row of the table of entries, a chain of rows, and a place between two rows of a chain.
+// A row of the table of entries, a chain of rows, and a place between two rows of a chain. Rows are named by index: they lie in one table, which
+// is given at the making, and no call allocates.
 use fields::kinds::{Field, Value};
 
 // One entry: its version, its field, its value, and the row behind it in its chain.

@@ -6,7 +6,8 @@ ghost use Rattle.copy_rows.specs.Rows.{Renewed, first_of};
 use fields::kinds::{Field, Value};
 
 // A copy without its entries: the serial number of its node, the key place, the first version, the values there of the two links, the
-// two back links, the value and the mark, and the copy of its node that begins next.
+// two back links, the value and the mark, and the copy of its node that begins next, by its number: the rows lie in a table that is given at the
+// making, and no call allocates.
 #[derive(Clone, Copy)]
 pub struct CopyRow {
     pub serial: u32,

@@ -1,6 +1,7 @@
 // The fix-ups of a removal from the map's tree, over any memory and any order. Each runs its row of steps, from whatever its memory means;
 // where it answers, it tells whether the tree under register d is one black node short. Register d holds the root of the subtree at
-// depth d, and register 35 is nil.
+// depth d, and register 35 is nil. The register and the side change apart, one level down or on the other side: a struct of both would be made
+// anew at each call.
 #![tactic(auto)]
 
 ghost use Rattle.working.specs.Works.{Works};
@@ -166,7 +167,7 @@ pub fn short_fix<M: PointerMemory, O: VersionOrder>(
     sibling_fix(work, d, right)
 }
 
-// One level of a removal: the child is linked again, and its side put right where it is short.
+// One level of a removal: the child is linked again, and its side put right where it is short, as the level below has answered.
 #[tactic(auto, unfolding(map_steps::specs::Remove::step_up_of))]
 pub fn step_up<M: PointerMemory, O: VersionOrder>(
     work: &mut Working<'_, M, O>,

@@ -1,6 +1,7 @@
 // Removal from the map's tree, over any key, any memory and any order. Each function runs its row of steps, from whatever its memory means;
 // where it answers, it tells whether the tree under register d is one black node short. Register d holds the root of the subtree at
-// depth d, at most 24, and register 35 is nil.
+// depth d, at most 24, and register 35 is nil. Memory, book and key stand apart, as in the crate `map`, and so do register and side, which change
+// apart from one level to the next.
 #![tactic(auto)]
 
 ghost use Rattle.working.specs.Works.{Works, working_means};
@@ -42,7 +43,7 @@ fn spliced<M: PointerMemory, O: VersionOrder>(
 }
 
 // Clears the links of the node in register 36: both where it is taken out, else the one to its child. `out` is in the row of steps too: as a
-// closure the step would bring a clause of its own for one `if`.
+// closure, here or where a node is taken, the step would bring a clause of its own for one `if`.
 #[tactic(auto, unfolding(crate::specs::Taking::unlink_of))]
 fn unlink<M: PointerMemory, O: VersionOrder>(
     work: &mut Working<'_, M, O>,

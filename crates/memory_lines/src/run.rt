@@ -1,5 +1,5 @@
-// Runs a line over any pointer memory and any order. It takes both and no `Working`, as a line that opens a version does, which changes the
-// order too.
+// Runs a line over any pointer memory and any order. It takes both and no `Working`: lines about versions, which are run beside these, change
+// the order too, and a `Working` would be made for each line.
 ghost use Rattle.memory.specs.Promises.{Does, Tells};
 ghost use Rattle.memory_lines.specs.Replies.{move_step, question_step, write_step, pointer_step};
 

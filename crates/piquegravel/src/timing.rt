@@ -38,6 +38,7 @@ fn below(seed: u64, n: u32) -> u32 {
     if n == 0 {
         0
     } else {
+        // below n, so nothing is lost
         ((seed >> 33) % u64::from(n)) as u32
     }
 }

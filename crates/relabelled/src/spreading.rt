@@ -23,6 +23,7 @@ pub(crate) fn spread(table: &mut Table<u32>, range: Range)
             break;
         };
         let step = (u64::from(j) * u64::from(range.size)) / u64::from(range.crowd);
+        // the step is below the size, so nothing is lost
         table.retag(x, range.base + step as u32);
         next = table.at(x).next;
     }

@@ -1,6 +1,7 @@
 // The calls of the table of chains. Each is safe for every order; its equation holds where the table answers the call. Where it does not, it
-// changes nothing or gives a value without meaning, and no refusal: the memory above refuses before it calls. The order comes with each call,
-// as with the calls of a memory; chain, field and version change apart from one call to the next.
+// changes nothing or gives a value without meaning, and no refusal: the memory above refuses before it calls, and a refusal here would be one
+// more way out of each of its calls. The order comes with each call, as with the calls of a memory; chain, field and version change apart from
+// one call to the next.
 ghost use Rattle.std.specs.Prelude.{◌≡◌, ℕ, ◌<◌, true, false, length, vec_len, MatchResult};
 ghost use Rattle.order.specs.Items.{position};
 ghost use Rattle.fields.specs.Fields.{field_number, redirect};
