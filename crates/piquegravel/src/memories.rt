@@ -19,7 +19,7 @@ pub enum MemoryKind {
 impl MemoryKind {
     // The kind that three words name: the memory's, its order's and how many versions; a single-version memory asks for neither of the last.
     // No `TryFrom`, as for the kinds of orders.
-    pub fn named(memory: &str, order: &str, versions: &str) -> Option<MemoryKind> {
+    pub(crate) fn named(memory: &str, order: &str, versions: &str) -> Option<MemoryKind> {
         match (memory, order, versions) {
             ("single", "-", "-") => Some(MemoryKind::Single),
             _ => None,

@@ -17,7 +17,7 @@ pub enum OrderKind {
 
 impl OrderKind {
     // The kind that a word names. No `TryFrom`: a word that names none is no error of its own, only no command.
-    pub fn named(word: &str) -> Option<OrderKind> {
+    pub(crate) fn named(word: &str) -> Option<OrderKind> {
         match word {
             "relabelled" => Some(OrderKind::Relabelled),
             "two-level" => Some(OrderKind::TwoLevel),
@@ -27,7 +27,7 @@ impl OrderKind {
 }
 
 // An order that the program can make: of item 0 alone, for at most `limit` items, in tables that it asks for.
-pub trait MadeOrder: VersionOrder + Labelled + Drop {
+pub(crate) trait MadeOrder: VersionOrder + Labelled + Drop {
     fn made(heap: Global, limit: u32) -> Result<Result<Self, MakerRefusal>, AllocError>
     where
         Self: Sized;

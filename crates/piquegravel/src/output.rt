@@ -5,7 +5,7 @@ use std::io::Write;
 use text::split::Lines;
 
 // Answers all lines of the input, in their order.
-pub fn answer_lines<W: Write, F: FnMut(&[u8]) -> Result<String, AllocError>>(
+pub(crate) fn answer_lines<W: Write, F: FnMut(&[u8]) -> Result<String, AllocError>>(
     output: &mut W,
     input: &[u8],
     mut answer: F,
@@ -21,7 +21,7 @@ pub fn answer_lines<W: Write, F: FnMut(&[u8]) -> Result<String, AllocError>>(
 }
 
 // What a call answers, or why it is refused, as text; a line that asks for no call is none.
-pub fn text_of<T: Display + Drop, E: Display + Drop>(
+pub(crate) fn text_of<T: Display + Drop, E: Display + Drop>(
     heap: Global,
     answered: Option<Result<T, E>>,
 ) -> Result<String, AllocError> {
