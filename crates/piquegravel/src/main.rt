@@ -15,6 +15,7 @@ use comparing::run_compare;
 use keying::run_keys;
 use memories::run_memory;
 use ordering::run_order;
+use output::PART;
 use std::io::{self, BufWriter, Read, Write};
 use std::{env, fs};
 use timing::run_time_order;
@@ -55,18 +56,30 @@ fn run_command(rt: &HostRuntime, command: Command, output: &mut impl Write) -> a
     }
 }
 
+// Runs the commands in their order; what one writes is out before the next begins.
+fn run_commands(
+    rt: &HostRuntime,
+    commands: &[Command],
+    output: &mut impl Write,
+) -> anyhow::Result<()> {
+    for command in commands {
+        run_command(rt, *command, output)?;
+        output.flush()?;
+    }
+    Ok(())
+}
+
 fn run(rt: &HostRuntime) -> anyhow::Result<()> {
     let words: Vec<String> = env::args(rt)?.collect(rt.alloc())?;
     let Some(commands) = read_commands(rt.alloc(), words.as_slice())? else {
         eprintln!(rt; "{USAGE}")?;
         return Err(anyhow!("these words are no commands"));
     };
-    let mut output = BufWriter::with_capacity(rt.alloc(), 65536, io::writer(rt))?;
-    for command in commands.iter() {
-        run_command(rt, *command, &mut output)?;
-        output.flush()?;
-    }
-    Ok(())
+    let mut output = BufWriter::with_capacity(rt.alloc(), 2 * PART, io::writer(rt))?;
+    let ran = run_commands(rt, commands.as_slice(), &mut output);
+    // The lines that are gathered when a command fails are not written; a writer that is let go would write them.
+    let _unwritten = output.into_parts();
+    ran
 }
 
 fn main(rt: HostRuntime) -> anyhow::Result<()> {

@@ -141,7 +141,8 @@ impl ChainTable {
     pub fn version_of(&self, i: u32, k: usize) -> u32
         ensures { i < self.now.made → k < length (entries_of self.now i) → result ≡ version_at (entries_of self.now i) k }
     {
-        if i >= self.made {
+        // a walk to a place behind the last entry would pass all of them
+        if i >= self.made || k >= self.length(i) {
             return 0;
         }
         self.walk(i).nth(k).map_or(0, |row| row.version)
