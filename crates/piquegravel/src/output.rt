@@ -7,7 +7,7 @@ use std::fmt::Display;
 use std::io::Write;
 use text::split::Lines;
 
-// How many bytes go out at once at the least, but for the last of a command.
+// How many bytes are gathered at the least before they go out at the end of a line.
 pub(crate) const PART: usize = 65536;
 
 // Answers all lines of the input, in their order. What is written is gathered, and goes out when a line is done, or where it fills the writer.
@@ -26,6 +26,7 @@ pub(crate) fn answer_lines<W: Write, F: FnMut(&[u8]) -> Result<Option<String>, A
         output.write_all(b" -> ")?;
         output.write_all(text)?;
         output.write_all(b"\n")?;
+        // the arrow and the end of the line are five bytes
         gathered = gathered
             .saturating_add(line.len())
             .saturating_add(text.len())
